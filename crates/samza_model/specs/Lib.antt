@@ -1,0 +1,12 @@
+pub mod Checkpoint
+pub mod Content
+pub mod Counters
+pub mod Files
+pub mod Frames
+pub mod Limits
+pub mod Logs
+pub mod Meaning
+pub mod Names
+pub mod Partition
+pub mod Restored
+pub mod Runs

@@ -1,0 +1,27 @@
+//! The types of a stream container's public surface, and the definitions that its contracts are written in.
+//!
+//! `specs/` has one file a subject: what a job means and what its acts do to stores and outputs, the frames of a log,
+//! the checkpoint record, what a task's files restore to, and the fold of a list of messages.
+#![tactic(auto)]
+
+mod acts;
+mod bytes;
+mod checkpoints;
+mod jobs;
+mod lists;
+mod memory;
+mod messages;
+mod setups;
+mod turns;
+mod values;
+
+pub use acts::{Act, Answer, Scope};
+pub use bytes::Bin;
+pub use checkpoints::{Checkpoint, InputMark, StoreMark};
+pub use jobs::Job;
+pub use lists::Items;
+pub use memory::NoMemory;
+pub use messages::{Envelope, Record, Ssp, TaskName};
+pub use setups::{InputSetup, OffsetDefault, Setup, StoreSetup};
+pub use turns::{Failure, Turn, Why};
+pub use values::Plain;
