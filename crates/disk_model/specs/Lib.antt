@@ -1,2 +1,16 @@
+pub mod Cells
+pub mod FileStates
+pub mod Formed
 pub mod Handles
+pub mod Held
+pub mod HostLaws
+pub mod HostSteps
 pub mod Images
+pub mod MemoryDisk
+pub mod MemoryHost
+pub mod MemoryLaws
+pub mod MemoryShelf
+pub mod Slots
+pub mod Tallies
+pub mod TraceWords
+pub mod Traces

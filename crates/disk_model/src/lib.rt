@@ -2,12 +2,30 @@
 //! out. `specs/` says what a crash may leave of a disk.
 #![tactic(auto)]
 
+mod arms;
+mod cells;
 mod disks;
+mod host_steps;
 mod hosts;
+mod memory_disk;
+mod memory_host;
+mod memory_shelf;
+mod memory_steps;
 mod names;
+pub mod names_held;
+mod new_disks;
 mod shelves;
+pub mod slots;
+mod tallies;
+mod traces;
 
 pub use disks::Disk;
 pub use hosts::{Host, HostFault};
+pub use memory_disk::MemDisk;
+pub use memory_host::MemHost;
+pub use memory_shelf::MemShelf;
 pub use names::{DiskFault, DiskName};
 pub use shelves::Shelf;
+
+#[cfg(test)]
+mod tests;

@@ -1,0 +1,63 @@
+-- Names.
+use Rattle.std.proofs.Common.{ℕ, ◌≡◌, ◌+◌, ◌≤◌, ◌==◌, ◌&&◌, nat_le, nat_lt, List, [], ◌∷◌, length, take, drop, Bool, not, ◌||◌, true, false, refl, sym, ◌∙◌, ap, arith, drop-drop}
+use Rattle.std.specs.Bool.{Decides}
+use Rattle.std.specs.List.{AllByRecursion, list_all, position_or_len, before_first, after_first}
+use Rattle.std.proofs.lemmas.List.{length-drop, length-append, take-append-drop}
+use Rattle.std.proofs.lemmas.Bool.{ltb-true, lt-ltb, leb-true}
+use Rattle.std.specs.Cmp.Lexicographic.{pointwise}
+use Rattle.samza_model.specs.declared.checkpoints.InputMark.{InputMark}
+use Rattle.samza_model.specs.Names.{is_between, is_name_byte, is_system, is_stream, is_topic}
+use Rattle.samza_model.specs.Checkpoint.{FitsInput}
+use Rattle.checkpoint_log.specs.Fits.{input_fits}
+
+pub topic_then : (name : List ℕ) (dot : ℕ) (system rest : List ℕ) (b : Bool) → dot ≡ position_or_len (λ c. c == 46) name → system ≡ take dot name → rest ≡ drop dot name → is_system system ≡ true
+    → b ≡ is_stream (drop 1 rest) → b ≡ is_topic name
+topic_then name dot system rest b is_dot is_sys is_rest tested is =
+    let s : is_system (before_first (λ c. c == 46) name) ≡ true = ap is_system (ap (λ (k : ℕ). take k name) (sym is_dot) ∙ sym is_sys) ∙ tested in
+    let t : is_stream (drop 1 rest) ≡ is_stream (after_first (λ c. c == 46) name) = ap is_stream (ap (drop 1) is_rest ∙ drop-drop 1 dot name ∙ ap (λ (k : ℕ). drop (k + 1) name) is_dot) in
+    is ∙ t ∙ sym (ap (λ (x : Bool). x && is_stream (after_first (λ c. c == 46) name)) s)
+
+and_left : (a b : Bool) → (a && b) ≡ true → a ≡ true
+and_left true b is = refl
+and_left false b is = is
+
+and_right : (a b : Bool) → (a && b) ≡ true → b ≡ true
+and_right true b is = is
+and_right false b is = absurd cc
+
+and_both : (a b : Bool) → a ≡ true → b ≡ true → (a && b) ≡ true
+and_both a b p q = cc
+
+input_Decides : (i : InputMark) → Decides (input_fits i) (FitsInput i)
+input_Decides i = (
+  (λ h. record { name = and_left (is_topic i.stream) (nat_lt i.partition 256) h; partition = ltb-true i.partition 256 (and_right (is_topic i.stream) (nat_lt i.partition 256) h) }),
+  (λ h. and_both (is_topic i.stream) (nat_lt i.partition 256) h.name (lt-ltb i.partition 256 h.partition)),
+)
+
+pub inputs_Decides : (list : List InputMark) → Decides (list_all input_fits list) (AllByRecursion FitsInput list)
+inputs_Decides [] = ((λ h. tt), (λ h. refl))
+inputs_Decides (i ∷ is) = (
+  (λ h. ((input_Decides i).0 (and_left (input_fits i) (list_all input_fits is) h), (inputs_Decides is).0 (and_right (input_fits i) (list_all input_fits is) h))),
+  (λ h. and_both (input_fits i) (list_all input_fits is) ((input_Decides i).1 h.0) ((inputs_Decides is).1 h.1)),
+)
+
+-- names are short
+pub system_short : (name : List ℕ) → is_system name ≡ true → length name ≤ 64
+system_short name is =
+    leb-true (length name) 64 (and_right (nat_le 1 (length name)) (nat_le (length name) 64) (and_left (is_between 1 64 (length name)) (list_all is_name_byte name) is))
+
+stream_short : (name : List ℕ) → is_stream name ≡ true → length name ≤ 180
+stream_short name is =
+    let range = is_between 1 180 (length name) in
+    let bytes = list_all (λ c. is_name_byte c || c == 46) name in
+    let one = not (pointwise ◌==◌ name (46 ∷ [])) in
+    let two = not (pointwise ◌==◌ name (46 ∷ 46 ∷ [])) in
+    leb-true (length name) 180 (and_right (nat_le 1 (length name)) (nat_le (length name) 180) (and_left range bytes (and_left (range && bytes) one (and_left (range && bytes && one) two is))))
+
+pub topic_short : (name : List ℕ) → is_topic name ≡ true → length name ≤ 245
+topic_short name is =
+    let p = position_or_len (λ c. c == 46) name in
+    let a : length (take p name) ≤ 64 = system_short (take p name) (and_left (is_system (take p name)) (is_stream (drop (p + 1) name)) is) in
+    let b : length (drop (p + 1) name) ≤ 180 = stream_short (drop (p + 1) name) (and_right (is_system (take p name)) (is_stream (drop (p + 1) name)) is) in
+    let all : length (take p name) + length (drop p name) ≡ length name = sym (length-append (take p name) (drop p name)) ∙ ap length (take-append-drop p name) in
+    omega (arith, a, b, all, length-drop p name, length-drop (p + 1) name)

@@ -1,0 +1,7 @@
+use Rattle.std.proofs.Common.{◌≡◌, ◌-◌}
+use Rattle.checkpoint_log.specs.Reading.{list_at, name_at}
+use Rattle.checkpoint_log.proofs.Loop.{with_front}
+use Rattle.checkpoint_log.proofs.decoding.outputs_of.Given as goal
+
+abbrev pub invariant-loop : goal.invariant-loop
+invariant-loop l = with_front l.items.items (list_at name_at (l.count - l.counter) l.rest) ≡ list_at name_at l.count l.bytes

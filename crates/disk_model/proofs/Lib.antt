@@ -1,0 +1,9 @@
+pub mod ByName
+pub mod Counts
+pub mod HostSteps
+pub mod Moments
+pub mod Replays
+pub mod SameDisks
+pub mod SlotSteps
+pub mod Steps
+pub mod Torn

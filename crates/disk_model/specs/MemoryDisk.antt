@@ -1,0 +1,39 @@
+-- The meanings of a disk in memory.
+use Rattle.std.specs.Prelude.{ℕ, ◌≤◌, ◌<◌, length}
+use Rattle.samza_model.specs.Files.{Image}
+use Rattle.disk_model.specs.FileStates.{IsImage}
+use Rattle.disk_model.specs.Handles.{SameDisk}
+use Rattle.disk_model.specs.TraceWords.{bytes_of, now_of, then_of}
+use Rattle.disk_model.specs.declared.memory_disk.MemDisk.{MemDisk}
+use Rattle.disk_model.specs.declared.names.DiskName.{DiskName}
+
+abbrev pub mem_name : MemDisk → DiskName
+mem_name d = d.name
+
+abbrev pub mem_reads : MemDisk → Image
+mem_reads d = bytes_of d.trace
+
+abbrev pub mem_images : MemDisk → Image → Type 0
+mem_images d = IsImage (now_of d.trace)
+
+-- an image after some number of calls from k on
+abbrev pub mem_images_since : MemDisk → ℕ → Image → Type 0
+mem_images_since d k c = (j : ℕ) × (k ≤ j) × (j ≤ d.tally.calls) × IsImage (then_of d.trace j) c
+
+abbrev pub mem_calls : MemDisk → ℕ
+mem_calls d = d.tally.calls
+
+abbrev pub mem_faults : MemDisk → ℕ
+mem_faults d = d.tally.faults
+
+-- one more than the greatest number of a file that was written or put
+abbrev pub mem_file_count : MemDisk → ℕ
+mem_file_count d = d.trace.there
+
+-- there is such a file, with room for so many bytes
+abbrev pub CanPlace : MemDisk → ℕ → ℕ → Type 0
+CanPlace d file n = (file < length d.trace.files.items) × (n ≤ d.trace.room)
+
+-- the second disk has the meanings of the first
+abbrev pub IsSameDisk : MemDisk → MemDisk → Type 0
+IsSameDisk old new = SameDisk (mem_reads old) (mem_images old) (mem_images_since old) (mem_calls old) (mem_reads new) (mem_images new) (mem_images_since new) (mem_calls new)

@@ -1,0 +1,44 @@
+-- The meanings of a host in memory.
+use Rattle.std.specs.Prelude.{ℕ, List, Option}
+use Rattle.samza_model.specs.Files.{Image}
+use Rattle.disk_model.specs.Handles.{SameAt}
+use Rattle.disk_model.specs.MemoryDisk.{mem_calls, mem_file_count, mem_images, mem_images_since, mem_reads}
+use Rattle.disk_model.specs.Slots.{held_in, images_in, number_in, outs_in, reads_in, shelves_in, since_in, slot_at, text_in}
+use Rattle.disk_model.specs.declared.memory_disk.MemDisk.{MemDisk}
+use Rattle.disk_model.specs.declared.memory_host.MemHost.{MemHost}
+use Rattle.disk_model.specs.declared.names.DiskName.{DiskName}
+
+-- the disk of a name, if it is there and not out
+abbrev pub disk_of : MemHost → DiskName → Option MemDisk
+disk_of h n = held_in (slot_at h.slots.items n)
+
+abbrev pub host_text : MemHost → Option (List ℕ)
+host_text h = text_in (λ v. v.items) h.text
+
+abbrev pub host_reads : MemHost → DiskName → Image
+host_reads h n = reads_in mem_reads (disk_of h n)
+
+abbrev pub host_images : MemHost → DiskName → Image → Type 0
+host_images h n = images_in mem_images (disk_of h n)
+
+abbrev pub host_images_since : MemHost → DiskName → ℕ → Image → Type 0
+host_images_since h n = since_in mem_images_since (disk_of h n)
+
+abbrev pub host_calls : MemHost → DiskName → ℕ
+host_calls h n = number_in mem_calls (disk_of h n)
+
+abbrev pub host_file_count : MemHost → DiskName → ℕ
+host_file_count h n = number_in mem_file_count (disk_of h n)
+
+abbrev pub host_disks_out : MemHost → DiskName → ℕ
+host_disks_out h n = outs_in (slot_at h.slots.items n)
+
+abbrev pub host_shelves_out : MemHost → DiskName → ℕ
+host_shelves_out h n = shelves_in (slot_at h.slots.items n)
+
+abbrev pub host_faults : MemHost → ℕ
+host_faults h = h.tally.faults
+
+-- the host's disk of a name is as it was
+abbrev pub IsSameHeld : MemHost → MemHost → DiskName → Type 0
+IsSameHeld old new n = SameAt host_reads host_images host_images_since host_calls host_file_count old new n

@@ -1,0 +1,26 @@
+-- What is said of the files of a disk in memory.
+use Rattle.std.specs.Prelude.{ℕ, ◌≡◌, ◌≢◌, length, take}
+use Rattle.samza_model.specs.Files.{Image}
+use Rattle.disk_model.specs.FileStates.{FileState}
+use Rattle.disk_model.specs.Traces.{bytes_at, state_of}
+use Rattle.disk_model.specs.declared.traces.Trace.{Trace}
+
+-- the number of entries
+abbrev pub count_of : Trace → ℕ
+count_of t = length t.noted.items
+
+abbrev pub bytes_of : Trace → Image
+bytes_of t = bytes_at t.files.items
+
+-- each file now
+abbrev pub now_of : Trace → ℕ → FileState
+now_of t = state_of t.start.items t.noted.items t.written.items
+
+-- each file after so many calls
+abbrev pub then_of : Trace → ℕ → ℕ → FileState
+then_of t j = state_of t.start.items (take j t.noted.items) t.written.items
+
+-- a change of one file
+pub record AtFile (file : ℕ) (change : FileState → FileState) (old new : ℕ → FileState) : Type 0 where
+  pub here : new file ≡ change (old file)
+  pub elsewhere : (f : ℕ) → f ≢ file → new f ≡ old f

@@ -1,0 +1,114 @@
+// Small steps of a host in memory.
+ghost use Rattle.std.specs.Prelude.{◌≡◌, ◌-◌, ◌^◌, ◌+◌, ℕ, Option, Some, None, IfOk, OnOk, OnErr, MatchOption, min, max};
+ghost use Rattle.disk_model.specs.Images.{Only, SameElsewhere};
+ghost use Rattle.disk_model.specs.MemoryDisk.{mem_name, mem_reads, mem_images, mem_file_count, mem_faults, IsSameDisk};
+ghost use Rattle.disk_model.specs.MemoryShelf.{shelf_name, shelf_file, shelf_bytes, shelf_faults};
+ghost use Rattle.disk_model.specs.Slots.{slot_at, held_in, reads_in, number_in, text_in, ChangesSlot};
+ghost use Rattle.disk_model.specs.HostSteps.{IsPlaced, ChangesHeld};
+ghost use Rattle.disk_model.specs.declared.memory_disk.MemDisk.{MemDisk};
+
+use crate::arms::Arm;
+use crate::memory_shelf::MemShelf;
+use crate::names_held::{held_of, place_of};
+use crate::slots::Slot;
+use crate::tallies::Tally;
+use crate::{DiskName, MemDisk};
+use samza_model::{Bin, NoMemory, Plain};
+use std::alloc::Global;
+
+pub(crate) fn copy_text(alloc: Global, text: &Option<Vec<u8>>) -> Result<Option<Vec<u8>>, NoMemory>
+    ensures { IfOk result (λ t. text_in (λ v. v.items) t ≡ text_in (λ v. v.items) text.now) }
+{
+    match text {
+        None => Ok(None),
+        Some(bytes) => match Vec::from_slice(alloc, bytes.as_slice()) {
+            Ok(copy) => Ok(Some(copy)),
+            Err(_) => Err(NoMemory),
+        },
+    }
+}
+
+pub(crate) fn stream_name(alloc: Global, system: &Bin, stream: &Bin) -> Result<DiskName, NoMemory>
+    ensures { IfOk result (λ n. n ≡ DiskName.Stream system.now stream.now) }
+{
+    Ok(DiskName::Stream {
+        system: system.copy(alloc)?,
+        stream: stream.copy(alloc)?,
+    })
+}
+
+/// One more than the greatest file number of a disk, at most 2^32 - 1.
+pub(crate) fn count_of_files(slots: &[Slot<MemDisk>], name: &DiskName) -> u32
+    ensures { result ≡ min (number_in mem_file_count (held_in (slot_at slots.now name.now))) (2 ^ 32 - 1) }
+{
+    match held_of(slots, name) {
+        Some(disk) => disk.file_count().min(0xffff_ffff) as u32,
+        None => 0,
+    }
+}
+
+/// A shelf with a copy of these bytes.
+pub(crate) fn new_shelf(
+    alloc: Global,
+    name: &DiskName,
+    file: u32,
+    bytes: &[u8],
+    arm: Arm,
+) -> Result<MemShelf, NoMemory>
+    ensures bytes { IfOk result (λ s. shelf_bytes s ≡ bytes.now) }
+    ensures name { IfOk result (λ s. shelf_name s ≡ name.now) }
+    ensures file { IfOk result (λ s. shelf_file s ≡ file) }
+    ensures fresh { IfOk result (λ s. shelf_faults s ≡ 0) }
+{
+    let name = name.copy(alloc)?;
+    let bytes = Vec::from_slice(alloc, bytes)?;
+    Ok(MemShelf {
+        name,
+        file,
+        bytes,
+        tally: Tally {
+            calls: 0,
+            faults: 0,
+            from: 0,
+            fail_at: arm.fail_at,
+            stop_after: arm.stop_after,
+        },
+    })
+}
+
+/// The disk as it is handed out.
+pub(crate) fn as_handle(disk: MemDisk, arm: Arm) -> MemDisk
+    ensures disk { IsSameDisk disk result }
+    ensures name { mem_name result ≡ mem_name disk }
+    ensures faults { mem_faults result ≡ 0 }
+{
+    let mut disk = disk;
+    disk.begin_handle();
+    disk.arm(arm.fail_at, arm.stop_after);
+    disk
+}
+
+/// Puts bytes in the place of a file of what stands under a name.
+pub(crate) fn place_held(
+    slots: &mut [Slot<MemDisk>],
+    name: &DiskName,
+    file: u32,
+    bytes: &[u8],
+) -> Result<(), NoMemory>
+    ensures placed { OnOk result (ChangesHeld name.now (IsPlaced file bytes.now) slots.old slots.new) }
+    ensures refused { OnErr result (slots.new ≡ slots.old) }
+{
+    let Some(place) = place_of(slots, name) else {
+        return Err(NoMemory);
+    };
+    let slot = &mut slots[place];
+    let Some(mut disk) = slot.held.take() else {
+        return Err(NoMemory);
+    };
+    let fits = disk.can_place(file, bytes.len());
+    if fits {
+        disk.place(file, bytes);
+    }
+    slot.held = Some(disk);
+    if fits { Ok(()) } else { Err(NoMemory) }
+}

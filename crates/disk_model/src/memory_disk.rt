@@ -1,0 +1,185 @@
+// A disk in memory, which may be told which calls fail, and shows what a crash leaves.
+ghost use Rattle.std.specs.Prelude.{◌≡◌, ◌<◌, ◌^◌, min};
+ghost use Rattle.disk_model.specs.TraceWords.{count_of};
+
+use crate::memory_steps::{read_from, sync_entry};
+use crate::tallies::Tally;
+use crate::traces::{Entry, Trace};
+use crate::{Disk, DiskFault, DiskName};
+use samza_model::NoMemory;
+use std::alloc::Global;
+
+/// A disk in memory. It takes all its memory when it is made.
+#[derive(Drop)]
+pub struct MemDisk {
+    name: DiskName,
+    trace: Trace,
+    tally: Tally,
+    ghost counted: { count_of trace ≡ min tally.calls trace.limit },
+    ghost small: { trace.limit < 2 ^ 64 },
+}
+
+impl MemDisk {
+    ghost use Rattle.std.specs.Prelude.{◌≡◌, ◌↔◌, ◌+◌, ℕ, [], IfOk, IsTrue, length, max};
+    ghost use Rattle.samza_model.specs.Files.{Image};
+    ghost use Rattle.disk_model.specs.Images.{Only, SameElsewhere};
+    ghost use Rattle.disk_model.specs.MemoryDisk.{mem_file_count, CanPlace, IsSameDisk};
+
+    /// A disk of empty files.
+    ///
+    /// `files` is the number of its files, which are numbered from 0, `room` the greatest size of one file and of the
+    /// bytes that are written in all, and `calls` the greatest number of calls. A write past the room fails, and so
+    /// does a call past `calls`. The calls with the numbers `fail_at` fail too, counted from 0, and all behind the
+    /// first `stop_after`.
+    pub fn new(
+        alloc: Global,
+        name: DiskName,
+        files: u32,
+        room: u64,
+        calls: u64,
+        fail_at: Vec<u64>,
+        stop_after: Option<u64>,
+    ) -> Result<MemDisk, NoMemory>
+        ensures name { IfOk result (λ d. ⟦<MemDisk as Disk>⟧.name d ≡ name) }
+        ensures reads { IfOk result (λ d. (f : ℕ) → ⟦<MemDisk as Disk>⟧.reads d f ≡ []) }
+        ensures images { IfOk result (λ d. (c : Image) → ⟦<MemDisk as Disk>⟧.images d c ↔ ((f : ℕ) → c f ≡ [])) }
+        ensures images_since { IfOk result (λ d. (k : ℕ) (c : Image) → ⟦<MemDisk as Disk>⟧.images_since d k c ↔ ((k ≡ 0) × ((f : ℕ) → c f ≡ []))) }
+        ensures calls { IfOk result (λ d. ⟦<MemDisk as Disk>⟧.call_number d ≡ 0) }
+        ensures faults { IfOk result (λ d. ⟦<MemDisk as Disk>⟧.fault_count d ≡ 0) }
+        ensures files { IfOk result (λ d. mem_file_count d ≡ 0) }
+    {
+        Ok(MemDisk {
+            name,
+            trace: Trace::new(alloc, files, room as usize, calls as usize)?,
+            tally: Tally {
+                calls: 0,
+                faults: 0,
+                from: 0,
+                fail_at,
+                stop_after,
+            },
+        })
+    }
+
+    /// A file's bytes, as a read gives them. One that isn't there has none.
+    pub fn bytes(&self, file: u32) -> &[u8]
+        ensures { result.now ≡ ⟦<MemDisk as Disk>⟧.reads self.now file }
+    {
+        self.trace.bytes(file)
+    }
+
+    /// Says anew which calls fail: those with these numbers, counted from 0 from now on, and all behind the first
+    /// `stop_after`.
+    pub fn arm(&mut self, fail_at: Vec<u64>, stop_after: Option<u64>)
+        ensures disk { IsSameDisk self.old self.new }
+        ensures name { ⟦<MemDisk as Disk>⟧.name self.new ≡ ⟦<MemDisk as Disk>⟧.name self.old }
+        ensures files { mem_file_count self.new ≡ mem_file_count self.old }
+        ensures faults { ⟦<MemDisk as Disk>⟧.fault_count self.new ≡ ⟦<MemDisk as Disk>⟧.fault_count self.old }
+    {
+        self.tally.from = self.tally.calls;
+        self.tally.fail_at = fail_at;
+        self.tally.stop_after = stop_after;
+    }
+
+    /// Counts the faults from 0 on.
+    pub(crate) fn begin_handle(&mut self)
+        ensures disk { IsSameDisk self.old self.new }
+        ensures name { ⟦<MemDisk as Disk>⟧.name self.new ≡ ⟦<MemDisk as Disk>⟧.name self.old }
+        ensures files { mem_file_count self.new ≡ mem_file_count self.old }
+        ensures faults { ⟦<MemDisk as Disk>⟧.fault_count self.new ≡ 0 }
+    {
+        self.tally.faults = 0;
+    }
+
+    /// Whether so many bytes can stand in this file.
+    pub(crate) fn can_place(&self, file: u32, len: usize) -> bool
+        ensures { IsTrue result ↔ CanPlace self.now file len }
+    {
+        (file as usize) < self.trace.files.len() && len <= self.trace.room
+    }
+
+    /// Puts bytes in the place of a file, as if they had been there from the start.
+    pub(crate) fn place(&mut self, file: u32, bytes: &[u8])
+        requires { CanPlace self.old file (length bytes.now) }
+        ensures name { ⟦<MemDisk as Disk>⟧.name self.new ≡ ⟦<MemDisk as Disk>⟧.name self.old }
+        ensures files { mem_file_count self.new ≡ max (mem_file_count self.old) (file + 1) }
+        ensures placed { ⟦<MemDisk as Disk>⟧.reads self.new file ≡ bytes.now }
+        ensures one_image { Only file (⟦<MemDisk as Disk>⟧.reads self.new) (⟦<MemDisk as Disk>⟧.images self.new) }
+        ensures elsewhere { SameElsewhere file (⟦<MemDisk as Disk>⟧.reads self.old) (⟦<MemDisk as Disk>⟧.reads self.new) }
+        ensures calls { ⟦<MemDisk as Disk>⟧.call_number self.new ≡ ⟦<MemDisk as Disk>⟧.call_number self.old }
+    {
+        self.trace.place(file as usize, bytes);
+    }
+
+    /// One more than the greatest number of a file that was written or put, and 0 where there is none.
+    pub(crate) fn file_count(&self) -> usize
+        ensures { result ≡ mem_file_count self.now }
+    {
+        self.trace.there
+    }
+}
+
+impl Disk for MemDisk {
+    ghost use Rattle.disk_model.specs.MemoryDisk.{mem_name, mem_reads, mem_images, mem_images_since, mem_calls, mem_faults};
+    ghost use Rattle.disk_model.specs.MemoryLaws.{mem_read_is_image, mem_counts_now, mem_only_now};
+
+    ghost tells = { Unit {0} };
+
+    ghost name = { mem_name };
+
+    ghost reads = { mem_reads };
+
+    ghost images = { mem_images };
+
+    ghost images_since = { mem_images_since };
+
+    ghost call_number = { mem_calls };
+
+    ghost fault_count = { mem_faults };
+
+    fn size(&mut self, file: u32) -> Result<u64, DiskFault> {
+        let failing = self.tally.begin();
+        let noted = self.trace.note(Entry::Quiet);
+        let size = self.trace.bytes(file).len() as u64;
+        self.tally.answer(failing, noted, size)
+    }
+
+    fn read_at(&mut self, file: u32, at: u64, into: &mut [u8]) -> Result<(), DiskFault> {
+        let failing = self.tally.begin();
+        let noted = self.trace.note(Entry::Quiet);
+        read_from(self.trace.bytes(file), at as usize, into);
+        self.tally.answer(failing, noted, ())
+    }
+
+    fn write_at(&mut self, file: u32, at: u64, bytes: &[u8]) -> Result<(), DiskFault> {
+        let failing = self.tally.begin();
+        let made = self.trace.write(file, at as usize, bytes);
+        self.tally.answer(failing, made, ())
+    }
+
+    fn cut(&mut self, file: u32, size: u64) -> Result<(), DiskFault> {
+        let failing = self.tally.begin();
+        let made = self.trace.cut(file, size as usize);
+        self.tally.answer(failing, made, ())
+    }
+
+    fn sync(&mut self, file: u32) -> Result<(), DiskFault> {
+        let failing = self.tally.begin();
+        let synced = self.trace.note(sync_entry(failing, file));
+        self.tally.answer(failing, synced, ())
+    }
+
+    fn calls(&self) -> u64 {
+        self.tally.calls
+    }
+
+    fn faults(&self) -> u64 {
+        self.tally.faults
+    }
+
+    ghost read_is_image = { mem_read_is_image };
+
+    ghost counts_now = { mem_counts_now };
+
+    ghost only_now = { mem_only_now };
+}

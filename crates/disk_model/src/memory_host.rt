@@ -1,0 +1,275 @@
+// A folder in memory, with disks by name.
+ghost use Rattle.std.specs.Prelude.{◌≡◌, Some};
+ghost use Rattle.disk_model.specs.MemoryDisk.{mem_name};
+ghost use Rattle.disk_model.specs.Slots.{slot_at, held_in};
+ghost use Rattle.disk_model.specs.declared.memory_disk.MemDisk.{MemDisk};
+ghost use Rattle.disk_model.specs.declared.names.DiskName.{DiskName};
+
+use crate::arms::{Arm, arm_of, put_arm};
+use crate::host_steps::{as_handle, copy_text, count_of_files, new_shelf, place_held, stream_name};
+use crate::memory_disk::MemDisk;
+use crate::memory_shelf::MemShelf;
+use crate::names_held::{has_slot, held_of, one_in, one_out, put_held, take_held};
+use crate::new_disks::new_disk;
+use crate::slots::Slot;
+use crate::tallies::Tally;
+use crate::{Disk, DiskName, Host, HostFault, Shelf};
+use samza_model::{Bin, NoMemory, Plain};
+use std::alloc::Global;
+
+/// A folder in memory, of any name.
+#[derive(Drop)]
+pub struct MemHost {
+    alloc: Global,
+    text: Option<Vec<u8>>,
+    room: u64,
+    calls: u64,
+    slots: Vec<Slot<MemDisk>>,
+    arms: Vec<Arm>,
+    tally: Tally,
+    ghost named: { (n : DiskName) (d : MemDisk) → held_in (slot_at slots.items n) ≡ Some d → mem_name d ≡ n },
+}
+
+impl MemHost {
+    ghost use Rattle.std.specs.Prelude.{◌≡◌, ◌≢◌, ◌+◌, ℕ, [], None, IfOk, OnOk, OnErr, max, length, MatchOption, option_map};
+    ghost use Rattle.disk_model.specs.Handles.{AsMany, NoneOut};
+    ghost use Rattle.disk_model.specs.Images.{Only, SameElsewhere};
+    ghost use Rattle.disk_model.specs.MemoryHost.{disk_of, host_text, host_reads, host_images, host_images_since, host_calls, host_file_count, host_disks_out, host_shelves_out, host_faults, IsSameHeld};
+    ghost use Rattle.disk_model.specs.Slots.{slot_at, text_in};
+    ghost use Rattle.disk_model.specs.declared.names.DiskName.{DiskName};
+
+    /// A folder with this configuration and no files. `room` is the greatest size of one file and of the bytes that are
+    /// written to one disk, and `calls` the greatest number of calls of one disk.
+    pub fn new(
+        alloc: Global,
+        text: Option<Vec<u8>>,
+        room: u64,
+        calls: u64,
+    ) -> Result<MemHost, NoMemory>
+        ensures text { IfOk result (λ h. host_text h ≡ text_in (λ v. v.items) text) }
+        ensures none_out { IfOk result (λ h. NoneOut (host_disks_out h) (host_shelves_out h)) }
+        ensures reads { IfOk result (λ h. (n : DiskName) (f : ℕ) → host_reads h n f ≡ []) }
+        ensures file_count { IfOk result (λ h. (n : DiskName) → host_file_count h n ≡ 0) }
+        ensures faults { IfOk result (λ h. host_faults h ≡ 0) }
+    {
+        Ok(MemHost {
+            alloc,
+            text,
+            room,
+            calls,
+            slots: Vec::new(alloc),
+            arms: Vec::new(alloc),
+            tally: Tally {
+                calls: 0,
+                faults: 0,
+                from: 0,
+                fail_at: Vec::new(alloc),
+                stop_after: None,
+            },
+        })
+    }
+
+    /// A file's bytes. One that isn't there has none.
+    pub fn file(&self, name: &DiskName, file: u32) -> &[u8]
+        ensures { result.now ≡ host_reads self.now name.now file }
+    {
+        match held_of(self.slots.as_slice(), name) {
+            Some(disk) => disk.bytes(file),
+            None => &[],
+        }
+    }
+
+    /// Makes a disk of this name, if there is none.
+    fn ensure(&mut self, alloc: Global, name: &DiskName) -> Result<(), NoMemory>
+        ensures there { OnOk result (slot_at self.new.slots.items name.now ≡ None → ⊥) }
+        ensures disks { (n : DiskName) → IsSameHeld self.old self.new n }
+        ensures disks_out { AsMany (host_disks_out self.old) (host_disks_out self.new) }
+        ensures shelves_out { AsMany (host_shelves_out self.old) (host_shelves_out self.new) }
+        ensures text { host_text self.new ≡ host_text self.old }
+        ensures faults { host_faults self.new ≡ host_faults self.old }
+    {
+        if has_slot(self.slots.as_slice(), name) {
+            return Ok(());
+        }
+        let disk = new_disk(alloc, name, self.room, self.calls)?;
+        let name = name.copy(alloc)?;
+        self.slots.push(Slot {
+            name,
+            held: Some(disk),
+            shelves: 0,
+        })?;
+        Ok(())
+    }
+
+    /// Puts bytes in the place of a file, whose one image they are. It refuses bytes past the room.
+    pub fn put_file(&mut self, name: &DiskName, file: u32, bytes: &[u8]) -> Result<(), NoMemory>
+        requires disk_in { host_disks_out self.old name.now ≡ 0 }
+        requires shelves_in { host_shelves_out self.old name.now ≡ 0 }
+        ensures placed { OnOk result (host_reads self.new name.now file ≡ bytes.now) }
+        ensures one_image { OnOk result (Only file (host_reads self.new name.now) (host_images self.new name.now)) }
+        ensures elsewhere { SameElsewhere file (host_reads self.old name.now) (host_reads self.new name.now) }
+        ensures file_count { OnOk result (host_file_count self.new name.now ≡ max (host_file_count self.old name.now) (file + 1)) }
+        ensures refused { OnErr result (IsSameHeld self.old self.new name.now) }
+        ensures disks { (n : DiskName) → n ≢ name.now → IsSameHeld self.old self.new n }
+        ensures disks_out { AsMany (host_disks_out self.old) (host_disks_out self.new) }
+        ensures shelves_out { AsMany (host_shelves_out self.old) (host_shelves_out self.new) }
+        ensures text { host_text self.new ≡ host_text self.old }
+        ensures faults { host_faults self.new ≡ host_faults self.old }
+    {
+        self.ensure(self.alloc, name)?;
+        match place_held(self.slots.as_mut_slice(), name, file, bytes) {
+            Ok(()) => Ok(()),
+            Err(fault) => Err(fault),
+        }
+    }
+
+    /// Says anew which calls of the host itself fail, counted from 0 from now on.
+    pub fn fail_next(&mut self, calls: Vec<u64>)
+        ensures disks { (n : DiskName) → IsSameHeld self.old self.new n }
+        ensures disks_out { AsMany (host_disks_out self.old) (host_disks_out self.new) }
+        ensures shelves_out { AsMany (host_shelves_out self.old) (host_shelves_out self.new) }
+        ensures text { host_text self.new ≡ host_text self.old }
+        ensures faults { host_faults self.new ≡ host_faults self.old }
+    {
+        self.tally.from = self.tally.calls;
+        self.tally.fail_at = calls;
+    }
+
+    /// Says which calls fail on each disk and shelf that is given out for this name from now on.
+    pub fn arm(
+        &mut self,
+        name: &DiskName,
+        fail_at: Vec<u64>,
+        stop_after: Option<u64>,
+    ) -> Result<(), NoMemory>
+        ensures disks { (n : DiskName) → IsSameHeld self.old self.new n }
+        ensures disks_out { AsMany (host_disks_out self.old) (host_disks_out self.new) }
+        ensures shelves_out { AsMany (host_shelves_out self.old) (host_shelves_out self.new) }
+        ensures text { host_text self.new ≡ host_text self.old }
+        ensures faults { host_faults self.new ≡ host_faults self.old }
+    {
+        let name = name.copy(self.alloc)?;
+        put_arm(
+            &mut self.arms,
+            Arm {
+                name,
+                fail_at,
+                stop_after,
+            },
+        )
+    }
+}
+
+impl Host for MemHost {
+    ghost use Rattle.disk_model.specs.MemoryHost.{host_text, host_reads, host_images, host_images_since, host_calls, host_file_count, host_disks_out, host_shelves_out, host_faults};
+    ghost use Rattle.disk_model.specs.HostLaws.{host_none_above};
+
+    type Disk = MemDisk;
+
+    type Shelf = MemShelf;
+
+    ghost tells = { Unit {0} };
+
+    ghost text_of = { host_text };
+
+    ghost reads = { host_reads };
+
+    ghost images = { host_images };
+
+    ghost images_since = { host_images_since };
+
+    ghost call_number = { host_calls };
+
+    ghost file_count = { host_file_count };
+
+    ghost disks_out = { host_disks_out };
+
+    ghost shelves_out = { host_shelves_out };
+
+    ghost fault_count = { host_faults };
+
+    fn enter(&mut self, _alloc: Global, _folder: &str) -> Result<(), HostFault> {
+        if self.tally.fails() {
+            return Err(HostFault::Device);
+        }
+        Ok(())
+    }
+
+    fn text(&mut self, alloc: Global) -> Result<Option<Vec<u8>>, HostFault> {
+        if self.tally.fails() {
+            return Err(HostFault::Device);
+        }
+        match copy_text(alloc, &self.text) {
+            Ok(text) => Ok(text),
+            Err(_) => Err(HostFault::NoMemory),
+        }
+    }
+
+    fn partitions(&mut self, alloc: Global, system: &Bin, stream: &Bin) -> Result<u32, HostFault> {
+        if self.tally.fails() {
+            return Err(HostFault::Device);
+        }
+        match stream_name(alloc, system, stream) {
+            Ok(name) => Ok(count_of_files(self.slots.as_slice(), &name)),
+            Err(_) => Err(HostFault::NoMemory),
+        }
+    }
+
+    fn shelf(&mut self, alloc: Global, name: &DiskName, file: u32) -> Result<MemShelf, HostFault> {
+        if self.tally.fails() {
+            return Err(HostFault::Device);
+        }
+        let Ok(()) = self.ensure(alloc, name) else {
+            return Err(HostFault::NoMemory);
+        };
+        let Ok(arm) = arm_of(alloc, self.arms.as_slice(), name) else {
+            return Err(HostFault::NoMemory);
+        };
+        let shelf = match new_shelf(alloc, name, file, self.file(name, file), arm) {
+            Ok(shelf) => shelf,
+            Err(_) => return Err(HostFault::NoMemory),
+        };
+        if !one_out(self.slots.as_mut_slice(), name) {
+            return Err(HostFault::NoMemory);
+        }
+        Ok(shelf)
+    }
+
+    fn lend(&mut self, alloc: Global, name: &DiskName) -> Result<MemDisk, HostFault> {
+        if self.tally.fails() {
+            return Err(HostFault::Device);
+        }
+        let Ok(()) = self.ensure(alloc, name) else {
+            return Err(HostFault::NoMemory);
+        };
+        let Ok(arm) = arm_of(alloc, self.arms.as_slice(), name) else {
+            return Err(HostFault::NoMemory);
+        };
+        match take_held(self.slots.as_mut_slice(), name) {
+            Some(disk) => Ok(as_handle(disk, arm)),
+            None => Err(HostFault::NoMemory),
+        }
+    }
+
+    fn take_shelf(&mut self, shelf: MemShelf) {
+        let faults = shelf.faults();
+        one_in(self.slots.as_mut_slice(), &shelf.name);
+        self.tally.add_faults(faults);
+    }
+
+    fn take_disk(&mut self, name: &DiskName, disk: MemDisk) {
+        let faults = disk.faults();
+        put_held(self.slots.as_mut_slice(), name, disk);
+        self.tally.add_faults(faults);
+    }
+
+    fn faults(&self) -> u64 {
+        self.tally.faults
+    }
+
+    ghost disk_tells = { λ told. told };
+
+    ghost shelf_tells = { λ told. told };
+
+    ghost none_above = { host_none_above };
+}

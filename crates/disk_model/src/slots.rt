@@ -1,0 +1,11 @@
+// What a host holds by name, and what of it is out.
+
+use crate::DiskName;
+
+/// What stands under a name: a value, or nothing while it is out, and how many shelves of it are out.
+#[derive(Drop)]
+pub struct Slot<T> {
+    pub name: DiskName,
+    pub held: Option<T>,
+    pub shelves: u64,
+}

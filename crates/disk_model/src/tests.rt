@@ -1,0 +1,110 @@
+use crate::*;
+use samza_model::{Bin, NoMemory};
+use std::alloc::Global;
+use std::test::Fail;
+
+fn small_disk(
+    alloc: Global,
+    fail_at: Vec<u64>,
+    stop_after: Option<u64>,
+) -> Result<MemDisk, NoMemory> {
+    MemDisk::new(alloc, DiskName::Task(0), 2, 4, 4, fail_at, stop_after)
+}
+
+/// Whether each of four syncs goes well.
+fn syncs(alloc: Global, fail_at: Vec<u64>, stop_after: Option<u64>) -> Result<[bool; 4], NoMemory> {
+    let mut disk = small_disk(alloc, fail_at, stop_after)?;
+    let first = disk.sync(0).is_ok();
+    let second = disk.sync(0).is_ok();
+    let third = disk.sync(0).is_ok();
+    let fourth = disk.sync(0).is_ok();
+    Ok([first, second, third, fourth])
+}
+
+#[test]
+fn a_disk_reads_what_was_written(rt: HostRuntime) -> Result<(), Fail> {
+    let mut disk = small_disk(rt.alloc(), Vec::new(rt.alloc()), None)?;
+    disk.write_at(1, 0, b"abc")?;
+    assert_eq!(rt; disk.bytes(1), b"abc".as_slice());
+    disk.cut(1, 0)?;
+    assert_eq!(rt; disk.bytes(1).len(), 0);
+    assert_eq!(rt; disk.size(1)?, 0);
+    disk.read_at(1, 0, &mut [])?;
+    assert_eq!(rt; disk.calls(), 4);
+    assert_eq!(rt; disk.faults(), 0);
+    Ok(())
+}
+
+#[test]
+fn calls_fail_where_they_are_told_to(rt: HostRuntime) -> Result<(), Fail> {
+    let alloc = rt.alloc();
+    assert_eq!(rt;
+        syncs(alloc, vec![in alloc; 1, 3]?, None)?,
+        [true, false, true, false]
+    );
+    assert_eq!(rt;
+        syncs(alloc, Vec::new(alloc), Some(2))?,
+        [true, true, false, false]
+    );
+    assert_eq!(rt;
+        syncs(alloc, Vec::new(alloc), None)?,
+        [true, true, true, true]
+    );
+    Ok(())
+}
+
+#[test]
+fn writes_past_the_room_and_calls_past_the_record_fail(rt: HostRuntime) -> Result<(), Fail> {
+    let mut disk = small_disk(rt.alloc(), Vec::new(rt.alloc()), None)?;
+    assert!(rt; disk.write_at(0, 0, b"abcde").is_err());
+    assert!(rt; disk.write_at(2, 0, b"a").is_err());
+    assert!(rt; disk.write_at(0, 0, b"abcd").is_ok());
+    assert!(rt; disk.write_at(1, 0, b"a").is_err());
+    assert!(rt; disk.sync(0).is_err());
+    assert_eq!(rt; disk.faults(), 4);
+    disk.arm(Vec::new(rt.alloc()), Some(0));
+    assert_eq!(rt; disk.calls(), 5);
+    Ok(())
+}
+
+#[test]
+fn a_host_lends_and_takes_back(rt: HostRuntime) -> Result<(), Fail> {
+    let alloc = rt.alloc();
+    let mut host = MemHost::new(alloc, None, 64, 16)?;
+    let task = DiskName::Task(0);
+    let mut disk = host.lend(alloc, &task)?;
+    disk.write_at(3, 0, b"q")?;
+    host.take_disk(&task, disk);
+    assert_eq!(rt; host.file(&task, 3), b"q".as_slice());
+    let mut shelf = host.shelf(alloc, &task, 3)?;
+    assert_eq!(rt; shelf.size()?, 1);
+    host.take_shelf(shelf);
+    assert_eq!(rt; host.faults(), 0);
+    Ok(())
+}
+
+#[test]
+fn a_host_shows_the_files_that_were_put(rt: HostRuntime) -> Result<(), Fail> {
+    let alloc = rt.alloc();
+    let mut host = MemHost::new(alloc, Some(vec![in alloc; 1]?), 64, 16)?;
+    let system = Bin::of(alloc, b"kafka")?;
+    let stream = Bin::of(alloc, b"in")?;
+    let name = DiskName::Stream {
+        system: Bin::of(alloc, b"kafka")?,
+        stream: Bin::of(alloc, b"in")?,
+    };
+    host.put_file(&name, 1, b"xyz")?;
+    assert_eq!(rt; host.file(&name, 1), b"xyz".as_slice());
+    assert_eq!(rt; host.file(&name, 0).len(), 0);
+    assert_eq!(rt; host.partitions(alloc, &system, &stream)?, 2);
+    host.fail_next(vec![in alloc; 1]?);
+    assert!(rt; host.enter(alloc, "f").is_ok());
+    assert!(rt; host.text(alloc).is_err());
+    assert_eq!(rt; host.faults(), 1);
+    host.arm(&name, Vec::new(alloc), Some(0))?;
+    let mut shelf = host.shelf(alloc, &name, 1)?;
+    assert!(rt; shelf.size().is_err());
+    host.take_shelf(shelf);
+    assert_eq!(rt; host.faults(), 2);
+    Ok(())
+}

@@ -1,0 +1,5 @@
+mod KeySets
+mod SlotContent
+pub mod Tracking
+mod Trees
+pub mod Updates

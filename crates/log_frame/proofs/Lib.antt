@@ -1,0 +1,9 @@
+mod Cuts
+pub mod Ends
+pub mod Fields
+pub mod Laws
+mod Front
+mod Loop
+mod Stored
+mod Sums
+mod Whole

@@ -1,0 +1,25 @@
+use Rattle.std.proofs.Common.{length, arith}
+use Rattle.disk_model.specs.Images.{TornWrite}
+use Rattle.topic_log.proofs.Moving.{one_call}
+use Rattle.topic_log.proofs.Bytes.{torn_none}
+use Rattle.topic_log.proofs.calls.write.Goals as goal
+
+pub returns-in-Ok-clause-moves : goal.returns-in-Ok-clause-moves
+returns-in-Ok-clause-moves g c = λ told.
+    let disk = g.D.Disk in
+    let old = c.args.disk.now in
+    let new = c.write_at.new.self in
+    let law = (g.met.D.Disk g.world.𝓛 g.world.𝓜 g.world.𝓡 ((λ s x. x), (λ x. x), (λ x. x), λ x. x)) in
+    one_call disk.reads disk.call_number disk.images disk.images_since old new (TornWrite c.args.file c.args.at (length c.args.bytes.now))
+    (λ f left. law.only_now old f told left) (λ f. torn_none c.args.file c.args.at (length c.args.bytes.now) f)
+    (c.write_at.ensures.time told) (omega (arith, c.write_at.ensures.called)) (c.write_at.ensures.crash told) (law.read_is_image new told)
+
+pub returns-in-Err-clause-moves : goal.returns-in-Err-clause-moves
+returns-in-Err-clause-moves g c = λ told.
+    let disk = g.D.Disk in
+    let old = c.args.disk.now in
+    let new = c.write_at.new.self in
+    let law = (g.met.D.Disk g.world.𝓛 g.world.𝓜 g.world.𝓡 ((λ s x. x), (λ x. x), (λ x. x), λ x. x)) in
+    one_call disk.reads disk.call_number disk.images disk.images_since old new (TornWrite c.args.file c.args.at (length c.args.bytes.now))
+    (λ f left. law.only_now old f told left) (λ f. torn_none c.args.file c.args.at (length c.args.bytes.now) f)
+    (c.write_at.ensures.time told) (omega (arith, c.write_at.ensures.called)) (c.write_at.ensures.crash told) (law.read_is_image new told)

@@ -1,0 +1,58 @@
+use Rattle.std.proofs.Common.{refl, sym, ◌∙◌, subst, arith}
+use Rattle.topic_log.specs.Moves.{Same}
+use Rattle.topic_log.proofs.Moving.{no_call}
+use Rattle.topic_log.proofs.Logged.{open_long}
+use Rattle.topic_log.proofs.Batching.{at_end, next_frame, next_is, open_still}
+use Rattle.topic_log.proofs.logs.Log.batch.Goals as goal
+
+pub returns-then-self-clause-any_moment : goal.returns-then-self-clause-any_moment
+returns-then-self-clause-any_moment g c = λ told.
+    let disk = g.D.Disk in
+    let old = c.args.disk.now in
+    let law = (g.met.D.Disk g.world.𝓛 g.world.𝓜 g.world.𝓡 ((λ s x. x), (λ x. x), (λ x. x), λ x. x)) in
+    (no_call disk.reads disk.call_number disk.images disk.images_since old Same (λ f left. law.only_now old f told left) (λ f. refl) (law.read_is_image old told)).moment
+
+pub returns-then-end-place-clause-any_moment : goal.returns-then-end-place-clause-any_moment
+returns-then-end-place-clause-any_moment g c = λ told.
+    let disk = g.D.Disk in
+    let old = c.args.disk.now in
+    let law = (g.met.D.Disk g.world.𝓛 g.world.𝓜 g.world.𝓡 ((λ s x. x), (λ x. x), (λ x. x), λ x. x)) in
+    (no_call disk.reads disk.call_number disk.images disk.images_since old Same (λ f left. law.only_now old f told left) (λ f. refl) (law.read_is_image old told)).moment
+
+pub returns-then-end-place-clause-batch : goal.returns-then-end-place-clause-batch
+returns-then-end-place-clause-batch g c = λ told frames before h. at_end (g.D.Disk.reads c.args.disk.now) (g.D.Disk.images c.args.disk.now) c.args.self.now c.args.place frames before h c.if-end-place.true
+
+pub read_frame-requires-clause-inside : goal.read_frame-requires-clause-inside
+read_frame-requires-clause-inside g c κs within = λ told.
+    let p = c.requires told c.if-self.false in
+    let long = open_long (g.D.Disk.reads c.args.disk.now) (g.D.Disk.images c.args.disk.now) c.args.self.now p.0 p.1.1.opened in
+    omega (arith, long, c.if-end-place.false)
+
+pub returns-in-Ok-clause-batch : goal.returns-in-Ok-clause-batch
+returns-in-Ok-clause-batch g c = λ told frames before h.
+    let reads = g.D.Disk.reads c.args.disk.now in
+    let images = g.D.Disk.images c.args.disk.now in
+    let f = next_frame reads images c.args.self.now c.args.place frames before h c.if-end-place.false in
+    let is = c.in-Ok.ensures.frame told f.records _ f.fits f.split in
+    next_is reads images c.args.self.now c.args.place frames before h f c.behind.result.0 c.in-Ok.decoded.used c.behind.result.1 (c.behind.ensures.records ∙ is.0) is.1
+    c.behind.ensures.byte c.behind.ensures.index
+
+pub returns-in-Ok-clause-stays : goal.returns-in-Ok-clause-stays
+returns-in-Ok-clause-stays g c = λ told frames h.
+    let disk = g.D.Disk in
+    let r = c.read_frame.ensures.rests told in
+    open_still (disk.reads c.args.disk.now) (disk.reads c.read_frame.new.disk) (disk.images c.args.disk.now) (disk.images c.read_frame.new.disk) c.args.self.now c.args.self.now frames r.reads_are
+    (λ i now. let p = r.moves.now i now in subst (disk.images c.args.disk.now) (sym p.2) p.1) refl refl h
+
+pub returns-in-Ok-clause-others : goal.returns-in-Ok-clause-others
+returns-in-Ok-clause-others g c = λ told log frames h.
+    let disk = g.D.Disk in
+    let r = c.read_frame.ensures.rests told in
+    open_still (disk.reads c.args.disk.now) (disk.reads c.read_frame.new.disk) (disk.images c.args.disk.now) (disk.images c.read_frame.new.disk) log log frames r.reads_are
+    (λ i now. let p = r.moves.now i now in subst (disk.images c.args.disk.now) (sym p.2) p.1) refl refl h
+
+pub returns-else-is_device-clause-sane : goal.returns-else-is_device-clause-sane
+returns-else-is_device-clause-sane g c = λ told at is.
+    let p = c.requires told c.if-self.false in
+    let f = next_frame (g.D.Disk.reads c.args.disk.now) (g.D.Disk.images c.args.disk.now) c.args.self.now c.args.place p.0 p.1.0 p.1.1 c.if-end-place.false in
+    c.in-Err.ensures.whole told f.records _ f.fits f.split at is

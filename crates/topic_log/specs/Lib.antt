@@ -1,0 +1,9 @@
+pub mod Batches
+pub mod Damage
+pub mod Extents
+pub mod Faults
+pub mod Lists
+pub mod Moves
+pub mod Opened
+pub mod Steps
+pub mod Walks

@@ -1,0 +1,74 @@
+// One batch of a log's file.
+ghost use Rattle.std.specs.Prelude.{◌≡◌, ◌≢◌, ◌+◌, ◌^◌, ◌<◌, ◌≤◌, ◌++◌, ℕ, List, Ok, length, take, drop, IfOk, IfErr};
+ghost use Rattle.samza_model.specs.declared.messages.Record.{Record};
+ghost use Rattle.samza_model.specs.Counters.{Rose};
+ghost use Rattle.samza_model.specs.Frames.{frame_bytes};
+ghost use Rattle.std.specs.List.{AllByRecursion};
+ghost use Rattle.samza_model.specs.Limits.{IsWithinLimits, IsFrameable};
+ghost use Rattle.log_frame.specs.Reading.{frame_at};
+ghost use Rattle.topic_log.specs.Faults.{IsWalkFault};
+ghost use Rattle.topic_log.specs.Moves.{Rests};
+
+use crate::LogFault;
+use crate::windows::{fill, frame_size};
+use disk_model::Disk;
+use log_frame::{Decoded, FrameFault, decode};
+use std::alloc::Global;
+
+/// The frame that begins the bytes, where these begin at `at` of the file.
+fn frame_in(alloc: Global, at: u64, bytes: &[u8]) -> Result<Decoded, LogFault>
+    requires { at + length bytes.now < 2 ^ 62 }
+    ensures within { IfOk result (λ d. d.used ≤ length bytes.now) }
+    ensures limits { IfOk result (λ d. AllByRecursion IsWithinLimits d.records) }
+    ensures frame { (records : List Record) (used : ℕ) → frame_at bytes.now ≡ Ok (records, used) → IfOk result (λ d. (d.records ≡ records) × (d.used ≡ used)) }
+    ensures whole { (records : List Record) (used : ℕ) → frame_at bytes.now ≡ Ok (records, used) → IfErr result (λ e. e ≡ LogFault.NoMemory) }
+    ensures fault { IfErr result IsWalkFault }
+    ensures memory { IfErr result (λ e. e ≢ LogFault.Device) }
+{
+    match decode(alloc, bytes) {
+        Ok(decoded) => Ok(decoded),
+        Err(FrameFault::Bad { at: bad }) => Err(LogFault::Damaged {
+            at: at.saturating_add(bad),
+        }),
+        Err(FrameFault::NoMemory) => Err(LogFault::NoMemory),
+    }
+}
+
+/// Reads the frame that begins at `at`, and is within so many bytes.
+pub(crate) fn read_frame<D: Disk>(
+    alloc: Global,
+    disk: &mut D,
+    file: u32,
+    at: u64,
+    room: u64,
+) -> Result<Decoded, LogFault>
+    requires small { at + room < 2 ^ 62 }
+    requires inside { D.tells → at + room ≤ length (D.reads disk.old file) }
+    ensures within { IfOk result (λ d. d.used ≤ room) }
+    ensures limits { IfOk result (λ d. AllByRecursion IsWithinLimits d.records) }
+    ensures frame { D.tells → (records : List Record) (rest : List ℕ) → IsFrameable records → take room (drop at (D.reads disk.old file)) ≡ frame_bytes records ++ rest
+        → IfOk result (λ d. (d.records ≡ records) × (d.used ≡ length (frame_bytes records))) }
+    ensures whole { D.tells → (records : List Record) (rest : List ℕ) → IsFrameable records → take room (drop at (D.reads disk.old file)) ≡ frame_bytes records ++ rest
+        → IfErr result (λ e. (place : ℕ) → e ≢ LogFault.Damaged place) }
+    ensures rests { D.tells → Rests D.reads D.call_number D.images D.images_since disk.old disk.new }
+    ensures fault { IfErr result IsWalkFault }
+    ensures device { IfErr result (λ e. e ≡ LogFault.Device → Rose (D.fault_count disk.old) (D.fault_count disk.new)) }
+    ensures later { D.fault_count disk.old ≤ D.fault_count disk.new }
+    ensures name { D.name disk.new ≡ D.name disk.old }
+{
+    if room < 8 {
+        return Err(LogFault::Damaged { at });
+    }
+    let mut bytes = Vec::new(alloc);
+    if let Err(fault) = fill(disk, file, at, 8, &mut bytes) {
+        return Err(fault);
+    }
+    let len = match frame_size(bytes.as_slice(), room) {
+        Some(len) => len,
+        None => return Err(LogFault::Damaged { at }),
+    };
+    if let Err(fault) = fill(disk, file, at, len, &mut bytes) {
+        return Err(fault);
+    }
+    frame_in(alloc, at, bytes.as_slice())
+}

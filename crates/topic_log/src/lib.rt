@@ -1,0 +1,17 @@
+//! Logs: files of frames, of which a crash leaves the frames before an append or those after it.
+#![tactic(auto)]
+
+mod batches;
+mod calls;
+mod extents;
+mod faults;
+mod logs;
+mod opening;
+mod shelf_logs;
+mod staging;
+mod windows;
+
+pub use extents::Place;
+pub use faults::LogFault;
+pub use logs::Log;
+pub use shelf_logs::read_shelf;

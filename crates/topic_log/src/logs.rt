@@ -1,0 +1,265 @@
+// A log of one file.
+ghost use Rattle.std.specs.Prelude.{◌≡◌, ◌≢◌, ◌+◌, ◌^◌, ◌<◌, ◌≤◌, ◌⊎◌, ◌↔◌, ◌++◌, ◌∷◌, [], ℕ, true, false, List, length, IsTrue, IfOk, IfErr, IfSome, OnOk, OnErr};
+ghost use Rattle.std.specs.List.{AllByRecursion};
+ghost use Rattle.samza_model.specs.declared.messages.Record.{Record};
+ghost use Rattle.samza_model.specs.Counters.{Rose};
+ghost use Rattle.samza_model.specs.Limits.{IsWithinLimits};
+ghost use Rattle.samza_model.specs.Logs.{HasFrames, HasNoLog};
+ghost use Rattle.disk_model.specs.Images.{SameElsewhere, Keeps, LeavesOnly};
+ghost use Rattle.log_frame.specs.Frame.{IsFrame, AreFrames};
+ghost use Rattle.topic_log.specs.Damage.{IsDamagedAt};
+ghost use Rattle.topic_log.specs.Extents.{IsPlace, IsLastOf};
+ghost use Rattle.topic_log.specs.Moves.{Same};
+ghost use Rattle.topic_log.specs.Steps.{closed_frames};
+
+use crate::batches::read_frame;
+use crate::extents::Extent;
+use crate::opening::{look, settle};
+use crate::staging::put_behind;
+use crate::{LogFault, Place};
+use disk_model::Disk;
+use log_frame::{Decoded, Frame};
+use samza_model::{Items, Record};
+use std::alloc::Global;
+use std::slice;
+
+/// A log that is open: one file of a disk, to which nothing else writes.
+#[derive(Debug, Drop)]
+pub struct Log {
+    file: u32,
+    extent: Extent,
+    broken: bool,
+}
+
+impl Log {
+    ghost use Rattle.topic_log.specs.declared.logs.Log.{Log};
+    ghost use Rattle.topic_log.specs.Batches.{HasPlace, IsNext};
+    ghost use Rattle.topic_log.specs.Opened.{file_of, count_of, size_of, is_broken, HasExtent, IsOpen, Appends, KeepsFrames};
+
+    /// Opens the log of a file, which may be empty: reads it through, and leaves one closed gate behind its frames.
+    ///
+    /// `Damaged` comes where the file is no log, with the byte at which reading stopped. A file of 2^62 bytes or more is
+    /// refused as `NoMemory`.
+    pub fn open_log<D: Disk>(alloc: Global, disk: &mut D, file: u32) -> Result<Log, LogFault>
+        // The log has the frames that the file had, in every image.
+        ensures opened { IfOk result (λ log. D.tells → (frames : List (List Record)) × HasFrames (D.reads disk.old file) frames × IsOpen (D.reads disk.new) (D.images disk.new) log frames) }
+        ensures file { IfOk result (λ log. file_of log ≡ file) }
+        ensures sound { IfOk result (λ log. is_broken log ≡ false) }
+        ensures elsewhere { OnOk result (D.tells → SameElsewhere file (D.reads disk.old) (D.reads disk.new)) }
+
+        // A crash at any moment leaves the frames that the image had.
+        ensures any_moment { D.tells → LeavesOnly D.call_number D.images D.images_since disk.old disk.new (KeepsFrames file) }
+        ensures others { D.tells → (log : Log) (frames : List (List Record)) → file_of log ≢ file
+            → IsOpen (D.reads disk.old) (D.images disk.old) log frames → IsOpen (D.reads disk.new) (D.images disk.new) log frames }
+
+        ensures damaged { IfErr result (λ e. (at : ℕ) → e ≡ LogFault.Damaged at → D.tells → IsDamagedAt (D.reads disk.old file) at × HasNoLog (D.reads disk.old file)) }
+        ensures device { IfErr result (λ e. e ≡ LogFault.Device → Rose (D.fault_count disk.old) (D.fault_count disk.new)) }
+        ensures never { IfErr result (λ e. (e ≢ LogFault.Limit) × (e ≢ LogFault.Broken)) }
+        ensures later { D.fault_count disk.old ≤ D.fault_count disk.new }
+        ensures name { D.name disk.new ≡ D.name disk.old }
+    {
+        let found = match look(alloc, disk, file) {
+            Ok(found) => found,
+            Err(fault) => return Err(fault),
+        };
+        match settle(disk, file, found.size, found.extent.gate) {
+            Ok(()) => Ok(Log {
+                file,
+                extent: found.extent,
+                broken: false,
+            }),
+            Err(fault) => Err(fault),
+        }
+    }
+
+    /// The number of records.
+    pub fn len(&self) -> u64
+        ensures { result ≡ count_of self.now }
+    {
+        self.extent.count
+    }
+
+    pub fn is_empty(&self) -> bool
+        ensures { IsTrue result ↔ (count_of self.now ≡ 0) }
+    {
+        self.extent.count == 0
+    }
+
+    /// The file's size in bytes.
+    pub fn size(&self) -> u64
+        ensures { result ≡ size_of self.now }
+    {
+        self.extent.gate + 1
+    }
+
+    /// The place before the first batch.
+    pub fn start(&self) -> Place
+        ensures { (frames : List (List Record)) → IsPlace frames [] result }
+    {
+        Place { byte: 0, index: 0 }
+    }
+
+    /// The place before the last batch, or `None` where the log has none.
+    pub fn last(&self) -> Option<Place>
+        ensures { (frames : List (List Record)) → HasExtent self.now frames → IsLastOf result frames }
+    {
+        self.extent.last
+    }
+
+    /// Adds the records of all these frames, and answers the new number of records. An empty list makes no device call.
+    ///
+    /// `Limit` comes before any device call where the file would pass 2^40 bytes. After `Device` the log is broken, and
+    /// answers `Broken` from then on.
+    pub fn append_all<D: Disk>(&mut self, disk: &mut D, frames: &[Frame]) -> Result<u64, LogFault>
+        requires { D.tells → is_broken self.old ≡ false → (before : List (List Record)) × IsOpen (D.reads disk.old) (D.images disk.old) self.old before }
+
+        ensures count { IfOk result (λ n. n ≡ count_of self.new) }
+        ensures file { file_of self.new ≡ file_of self.old }
+
+        // The log has the frames before, followed by these, in every image.
+        ensures appended { OnOk result (D.tells → (before lists : List (List Record)) → IsOpen (D.reads disk.old) (D.images disk.old) self.old before → AreFrames frames.now lists
+            → IsOpen (D.reads disk.new) (D.images disk.new) self.new (before ++ lists)) }
+        ensures grown { OnOk result (size_of self.new ≡ size_of self.old + length (closed_frames frames.now)) }
+        ensures elsewhere { OnOk result (D.tells → SameElsewhere (file_of self.old) (D.reads disk.old) (D.reads disk.new)) }
+
+        // A crash at any moment leaves the frames before, or those followed by all of these.
+        ensures any_moment { D.tells → (before lists : List (List Record)) → IsOpen (D.reads disk.old) (D.images disk.old) self.old before → AreFrames frames.now lists
+            → LeavesOnly D.call_number D.images D.images_since disk.old disk.new (Appends (file_of self.old) before lists) }
+        ensures others { D.tells → (log : Log) (frames : List (List Record)) → file_of log ≢ file_of self.old
+            → IsOpen (D.reads disk.old) (D.images disk.old) log frames → IsOpen (D.reads disk.new) (D.images disk.new) log frames }
+
+        ensures ok { OnOk result ((is_broken self.old ≡ false) × (size_of self.old + length (closed_frames frames.now) ≤ 2 ^ 40)) }
+        ensures broken { IfErr result (λ e. (e ≡ LogFault.Broken) ↔ (is_broken self.old ≡ true)) }
+        ensures limit { IfErr result (λ e. (e ≡ LogFault.Limit) ↔ ((is_broken self.old ≡ false) × (2 ^ 40 < size_of self.old + length (closed_frames frames.now)))) }
+        ensures device { IfErr result (λ e. e ≡ LogFault.Device → Rose (D.fault_count disk.old) (D.fault_count disk.new)) }
+        ensures never { IfErr result (λ e. ((at : ℕ) → e ≢ LogFault.Damaged at) × (e ≢ LogFault.NoMemory)) }
+
+        ensures sound { OnOk result (is_broken self.new ≡ false) }
+        ensures breaks { IfErr result (λ e. (is_broken self.new ≡ true) ↔ ((e ≡ LogFault.Broken) ⊎ (e ≡ LogFault.Device))) }
+        ensures refused { IfErr result (λ e. e ≢ LogFault.Device → (self.new ≡ self.old) × (disk.new ≡ disk.old)) }
+        ensures later { D.fault_count disk.old ≤ D.fault_count disk.new }
+        ensures name { D.name disk.new ≡ D.name disk.old }
+    {
+        if self.broken {
+            return Err(LogFault::Broken);
+        }
+        let extent = match self.extent.behind(frames) {
+            Some(extent) => extent,
+            None => return Err(LogFault::Limit),
+        };
+        if frames.is_empty() {
+            return Ok(self.extent.count);
+        }
+        self.broken = true;
+        put_behind(disk, self.file, self.extent.gate, frames)?;
+        self.broken = false;
+        self.extent = extent;
+        Ok(extent.count)
+    }
+
+    /// Adds a frame's records, and answers the new number of records. It makes at most four device calls, and else is as
+    /// `append_all`.
+    pub fn append<D: Disk>(&mut self, disk: &mut D, frame: &Frame) -> Result<u64, LogFault>
+        requires { D.tells → is_broken self.old ≡ false → (before : List (List Record)) × IsOpen (D.reads disk.old) (D.images disk.old) self.old before }
+
+        ensures count { IfOk result (λ n. n ≡ count_of self.new) }
+        ensures file { file_of self.new ≡ file_of self.old }
+
+        // The log has the frames before, followed by this one, in every image.
+        ensures appended { OnOk result (D.tells → (before : List (List Record)) (records : List Record) → IsOpen (D.reads disk.old) (D.images disk.old) self.old before → IsFrame frame.now records
+            → IsOpen (D.reads disk.new) (D.images disk.new) self.new (before ++ records ∷ [])) }
+        ensures grown { OnOk result (size_of self.new ≡ size_of self.old + length frame.now.bytes + 1) }
+        ensures elsewhere { OnOk result (D.tells → SameElsewhere (file_of self.old) (D.reads disk.old) (D.reads disk.new)) }
+
+        // A crash at any moment leaves the frames before, or those followed by this one.
+        ensures any_moment { D.tells → (before : List (List Record)) (records : List Record) → IsOpen (D.reads disk.old) (D.images disk.old) self.old before → IsFrame frame.now records
+            → LeavesOnly D.call_number D.images D.images_since disk.old disk.new (Appends (file_of self.old) before (records ∷ [])) }
+        ensures others { D.tells → (log : Log) (frames : List (List Record)) → file_of log ≢ file_of self.old
+            → IsOpen (D.reads disk.old) (D.images disk.old) log frames → IsOpen (D.reads disk.new) (D.images disk.new) log frames }
+
+        ensures ok { OnOk result ((is_broken self.old ≡ false) × (size_of self.old + length frame.now.bytes + 1 ≤ 2 ^ 40)) }
+        ensures broken { IfErr result (λ e. (e ≡ LogFault.Broken) ↔ (is_broken self.old ≡ true)) }
+        ensures limit { IfErr result (λ e. (e ≡ LogFault.Limit) ↔ ((is_broken self.old ≡ false) × (2 ^ 40 < size_of self.old + length frame.now.bytes + 1))) }
+        ensures device { IfErr result (λ e. e ≡ LogFault.Device → Rose (D.fault_count disk.old) (D.fault_count disk.new)) }
+        ensures never { IfErr result (λ e. ((at : ℕ) → e ≢ LogFault.Damaged at) × (e ≢ LogFault.NoMemory)) }
+
+        ensures sound { OnOk result (is_broken self.new ≡ false) }
+        ensures breaks { IfErr result (λ e. (is_broken self.new ≡ true) ↔ ((e ≡ LogFault.Broken) ⊎ (e ≡ LogFault.Device))) }
+        ensures refused { IfErr result (λ e. e ≢ LogFault.Device → (self.new ≡ self.old) × (disk.new ≡ disk.old)) }
+        ensures later { D.fault_count disk.old ≤ D.fault_count disk.new }
+        ensures name { D.name disk.new ≡ D.name disk.old }
+    {
+        self.append_all(disk, slice::from_ref(frame))
+    }
+
+    /// The records of the batch at a place, and the place behind it; `None` at the end. The place is one that `start`,
+    /// `last` or `batch` gave. After `Device` the log is broken.
+    pub fn batch<D: Disk>(
+        &mut self,
+        alloc: Global,
+        disk: &mut D,
+        place: Place,
+    ) -> Result<Option<(Items<Record>, Place)>, LogFault>
+        requires { D.tells → is_broken self.old ≡ false → (frames : List (List Record)) × ((before : List (List Record)) × HasPlace (D.reads disk.old) (D.images disk.old) self.old place frames before) }
+
+        ensures batch { IfOk result (λ o. D.tells → (frames before : List (List Record)) → HasPlace (D.reads disk.old) (D.images disk.old) self.old place frames before → IsNext frames before o) }
+
+        // The place behind is further on, and within the file; and the records are within the limits. Every disk gives that.
+        ensures forward { IfOk result (λ o. IfSome o (λ b. (place.byte < b.1.byte) × (b.1.byte < size_of self.old))) }
+        ensures limits { IfOk result (λ o. IfSome o (λ b. AllByRecursion IsWithinLimits b.0)) }
+
+        // Nothing changes on the disk, and the logs stay open.
+        ensures reads { D.tells → D.reads disk.new ≡ D.reads disk.old }
+        ensures images { D.tells → Keeps (D.images disk.old) (D.images disk.new) }
+        ensures none_lost { D.tells → Keeps (D.images disk.new) (D.images disk.old) }
+        ensures any_moment { D.tells → LeavesOnly D.call_number D.images D.images_since disk.old disk.new Same }
+        ensures stays { D.tells → (frames : List (List Record)) → IsOpen (D.reads disk.old) (D.images disk.old) self.old frames → IsOpen (D.reads disk.new) (D.images disk.new) self.new frames }
+        ensures others { D.tells → (log : Log) (frames : List (List Record)) → IsOpen (D.reads disk.old) (D.images disk.old) log frames → IsOpen (D.reads disk.new) (D.images disk.new) log frames }
+
+        ensures ok { OnOk result ((is_broken self.old ≡ false) × (self.new ≡ self.old)) }
+        ensures broken { IfErr result (λ e. (e ≡ LogFault.Broken) ↔ (is_broken self.old ≡ true)) }
+        ensures sane { IfErr result (λ e. D.tells → (at : ℕ) → e ≢ LogFault.Damaged at) }
+        ensures device { IfErr result (λ e. e ≡ LogFault.Device → Rose (D.fault_count disk.old) (D.fault_count disk.new)) }
+        ensures never { IfErr result (λ e. e ≢ LogFault.Limit) }
+
+        ensures breaks { IfErr result (λ e. (is_broken self.new ≡ true) ↔ ((e ≡ LogFault.Broken) ⊎ (e ≡ LogFault.Device))) }
+        ensures kept { IfErr result (λ e. e ≢ LogFault.Device → self.new ≡ self.old) }
+        ensures file { file_of self.new ≡ file_of self.old }
+        ensures later { D.fault_count disk.old ≤ D.fault_count disk.new }
+        ensures name { D.name disk.new ≡ D.name disk.old }
+    {
+        if self.broken {
+            return Err(LogFault::Broken);
+        }
+        let end = self.extent.gate;
+        if end <= place.byte {
+            return Ok(None);
+        }
+        let at = place.byte + 1;
+        match read_frame(alloc, disk, self.file, at, end - at) {
+            Ok(decoded) => Ok(Some(behind(place, decoded))),
+            Err(fault) => {
+                if fault.is_device() {
+                    self.broken = true;
+                    return Err(fault);
+                }
+                Err(fault)
+            }
+        }
+    }
+}
+
+/// The records, and the place behind them.
+fn behind(place: Place, decoded: Decoded) -> (Items<Record>, Place)
+    requires { place.byte + 1 + decoded.used < 2 ^ 62 }
+    ensures records { result.0 ≡ decoded.records }
+    ensures byte { result.1.byte ≡ place.byte + 1 + decoded.used }
+    ensures index { place.index + length result.0 < 2 ^ 64 → result.1.index ≡ place.index + length result.0 }
+{
+    let Decoded { records, used } = decoded;
+    let next = Place {
+        byte: place.byte + 1 + used,
+        index: place.index.saturating_add(records.as_slice().len() as u64),
+    };
+    (records, next)
+}
