@@ -1,0 +1,14 @@
+mod Appended
+mod Begun
+mod Committed
+mod Kept
+mod Logs
+mod Flushed
+mod Made
+mod Openings
+mod Places
+mod PlansSoFar
+mod SoFar
+mod TakingBack
+mod Turns
+mod Whole

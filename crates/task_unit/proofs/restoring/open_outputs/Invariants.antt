@@ -1,0 +1,11 @@
+use Rattle.std.proofs.Common.{◌≡◌, length}
+use Rattle.task_unit.specs.Written.{AllSound}
+use Rattle.task_unit.proofs.SoFar.{Goes, OutputsSoFar}
+use Rattle.task_unit.proofs.restoring.open_outputs.Given as goal
+
+abbrev pub invariant-loop-j : goal.invariant-loop-j
+invariant-loop-j g l =
+    OutputsSoFar g.D.Disk.tells g.D.Disk.reads g.D.Disk.images l.fn.disk l.disk l.j l.logs.items
+    × (length l.logs.items ≡ l.j)
+    × AllSound l.logs.items
+    × Goes g.D.Disk.fault_count g.D.Disk.name l.fn.disk l.disk

@@ -1,0 +1,58 @@
+use Rattle.std.proofs.Common.{ℕ, List, length, inl, inr, subst}
+use Rattle.samza_model.specs.declared.setups.StoreSetup.{StoreSetup}
+use Rattle.samza_model.specs.Files.{changelog_file}
+use Rattle.task_unit.specs.Refused.{WhyNoStores, WhyNoOutputs}
+use Rattle.task_unit.specs.Standing.{HoldsStores, HoldsOutputs, SameFrom}
+use Rattle.task_unit.specs.Held.{contents_of}
+use Rattle.task_unit.proofs.Whole.{marked, stores_refused, counts_before, outputs_refused, mark_whole, stores_whole, outputs_whole}
+use Rattle.task_unit.proofs.restoring.restore.Goals as goal
+
+pub returns-in-Err-open_stores-clause-why : goal.returns-in-Err-open_stores-clause-why
+returns-in-Err-open_stores-clause-why g c = λ told.
+    let disk = g.D.Disk in
+    inr (inl (stores_refused c.args.setup.now (disk.reads c.args.disk.now) (disk.reads c.open_marks.new.disk) (disk.images c.open_marks.new.disk) c.in-Ok.opened.0 c.in-Ok.opened.1 c.in-Err-open_stores.fault
+    (c.in-Ok.ensures.mark told) (c.in-Ok.ensures.elsewhere told) (subst (λ (xs : List StoreSetup). WhyNoStores (disk.reads c.open_marks.new.disk) c.in-Ok.opened.1 (length xs) c.in-Err-open_stores.fault) c.as_slice.ensures (c.in-Err-open_stores.ensures.why told))))
+
+pub returns-in-Err-open_outputs-clause-why : goal.returns-in-Err-open_outputs-clause-why
+returns-in-Err-open_outputs-clause-why g c = λ told.
+    let disk = g.D.Disk in
+    let s = c.args.setup.now in
+    let r0 = disk.reads c.args.disk.now in
+    let r1 = disk.reads c.open_marks.new.disk in
+    let r2 = disk.reads c.open_stores.new.disk in
+    let i1 = disk.images c.open_marks.new.disk in
+    let i2 = disk.images c.open_stores.new.disk in
+    let h = c.in-Ok.ensures.mark told in
+    let same = c.in-Ok.ensures.elsewhere told in
+    let hs = subst (λ (xs : List StoreSetup). HoldsStores r1 r2 i2 c.in-Ok.opened.1 (length xs) c.in-Ok-open_stores.opened.0.items (contents_of c.in-Ok-open_stores.opened.1.items)) c.as_slice.ensures (c.in-Ok-open_stores.ensures.stores told) in
+    let behind = subst (λ (xs : List StoreSetup). SameFrom (changelog_file (length xs)) r1 r2) c.as_slice.ensures (c.in-Ok-open_stores.ensures.behind told) in
+    inr (inr (record {
+      mark = c.in-Ok.opened.1;
+      marked = marked s r0 r1 i1 c.in-Ok.opened.0 c.in-Ok.opened.1 h;
+      counts = counts_before s r0 r1 r2 i1 i2 c.in-Ok.opened.0 c.in-Ok.opened.1 (length s.stores) c.in-Ok-open_stores.opened.0.items (contents_of c.in-Ok-open_stores.opened.1.items) c.requires.few_stores h same hs behind;
+      why = outputs_refused s r0 r1 r2 i1 i2 c.in-Ok.opened.0 c.in-Ok.opened.1 (length s.stores) c.in-Ok-open_stores.opened.0.items (contents_of c.in-Ok-open_stores.opened.1.items) c.requires.few_stores h same hs behind (length s.outputs) c.in-Err-open_outputs.fault (subst (λ (xs : List (List ℕ)). WhyNoOutputs r2 (length xs) c.in-Err-open_outputs.fault) c.as_slice-2.ensures (c.in-Err-open_outputs.ensures.why told));
+    }))
+
+pub returns-clause-restored : goal.returns-clause-restored
+returns-clause-restored g c = λ told.
+    let disk = g.D.Disk in
+    let s = c.args.setup.now in
+    let r0 = disk.reads c.args.disk.now in
+    let r1 = disk.reads c.open_marks.new.disk in
+    let r2 = disk.reads c.open_stores.new.disk in
+    let r3 = disk.reads c.open_outputs.new.disk in
+    let i1 = disk.images c.open_marks.new.disk in
+    let i2 = disk.images c.open_stores.new.disk in
+    let i3 = disk.images c.open_outputs.new.disk in
+    let h = c.in-Ok.ensures.mark told in
+    let same = c.in-Ok.ensures.elsewhere told in
+    let hs = subst (λ (xs : List StoreSetup). HoldsStores r1 r2 i2 c.in-Ok.opened.1 (length xs) c.in-Ok-open_stores.opened.0.items (contents_of c.in-Ok-open_stores.opened.1.items)) c.as_slice.ensures (c.in-Ok-open_stores.ensures.stores told) in
+    let behind = subst (λ (xs : List StoreSetup). SameFrom (changelog_file (length xs)) r1 r2) c.as_slice.ensures (c.in-Ok-open_stores.ensures.behind told) in
+    let ho = subst (λ (xs : List (List ℕ)). HoldsOutputs r2 r3 i3 (length xs) c.in-Ok-open_outputs.outputs.items) c.as_slice-2.ensures (c.in-Ok-open_outputs.ensures.outputs told) in
+    let keeps = c.in-Ok-open_stores.ensures.others told in
+    let keeps' = c.in-Ok-open_outputs.ensures.others told in
+    record {
+      mark_is = mark_whole s r0 r1 r2 i1 i2 c.in-Ok.opened.0 c.in-Ok.opened.1 (length s.stores) c.in-Ok-open_stores.opened.0.items (contents_of c.in-Ok-open_stores.opened.1.items) c.requires.few_stores h same hs behind r3 i3 (length s.outputs) c.in-Ok-open_outputs.outputs.items ho keeps keeps';
+      stores_are = stores_whole s r0 r1 r2 i1 i2 c.in-Ok.opened.0 c.in-Ok.opened.1 (length s.stores) c.in-Ok-open_stores.opened.0.items (contents_of c.in-Ok-open_stores.opened.1.items) c.requires.few_stores h same hs behind r3 i3 (length s.outputs) c.in-Ok-open_outputs.outputs.items ho keeps keeps';
+      outputs_are = outputs_whole s r0 r1 r2 i1 i2 c.in-Ok.opened.0 c.in-Ok.opened.1 (length s.stores) c.in-Ok-open_stores.opened.0.items (contents_of c.in-Ok-open_stores.opened.1.items) c.requires.few_stores h same hs behind r3 i3 (length s.outputs) c.in-Ok-open_outputs.outputs.items ho keeps keeps';
+    }

@@ -1,0 +1,53 @@
+-- What a task's holdings are to contracts.
+use Rattle.std.specs.Prelude.{ℕ, ◌≡◌, List, ◌∷◌, [], ◌++◌, length, Option, reverse, slice_set}
+use Rattle.samza_model.specs.declared.messages.Record.{Record}
+use Rattle.samza_model.specs.Content.{sent_at}
+use Rattle.samza_model.specs.Content.{Content}
+use Rattle.samza_model.specs.declared.setups.Setup.{Setup}
+use Rattle.samza_model.specs.Runs.{End}
+use Rattle.kv_store.specs.Tracked.{with_change, AgreesOnClean}
+use Rattle.std.specs.Prelude.{Some, None}
+use Rattle.task_unit.specs.declared.acting.Course.{Course}
+use Rattle.task_unit.specs.declared.acting.Course.TheVariants.{GoesOn, Done, Failed}
+use Rattle.task_unit.specs.declared.acting.Holdings.{Holdings}
+use Rattle.task_unit.specs.declared.acting.Undone.{Undone}
+use Rattle.task_unit.specs.Held.{Held, tracked_at, LeadsTo}
+
+abbrev pub held : Holdings → Held
+held h = record { stores = h.stores.items; unsent = h.unsent.items }
+
+-- what takes the acts of a message back, the oldest first
+abbrev pub undos_of : Holdings → List Undone
+undos_of h = h.undos.items
+
+-- what led back before leads back after
+abbrev pub GoesBack : Holdings → Holdings → Type 0
+GoesBack old new = (first : Held) → LeadsTo (held old) (reverse (undos_of old)) first → LeadsTo (held new) (reverse (undos_of new)) first
+
+-- a key of a store set or taken away
+abbrev pub with_stored : Held → ℕ → List ℕ → Option (List ℕ) → Held
+with_stored h store key value = record { stores = slice_set h.stores store (with_change (tracked_at h.stores store) key value); unsent = h.unsent }
+
+-- a record sent to an output
+abbrev pub with_sent : Held → ℕ → Record → Held
+with_sent h output body = record { stores = h.stores; unsent = slice_set h.unsent output (sent_at h.unsent output ++ body ∷ []) }
+
+-- as many stores and outputs as the setup has
+pub record IsSized (s : Setup) (h : Held) : Type 0 where
+  pub stores : length h.stores ≡ length s.stores
+  pub outputs : length h.unsent ≡ length s.outputs
+
+-- a content with which a store agreed at its clean keys still does
+abbrev pub KeepsClean : Held → Held → Type 0
+KeepsClean old new = (i : ℕ) (c : Content) → AgreesOnClean (tracked_at old.stores i) c → AgreesOnClean (tracked_at new.stores i) c
+
+-- how a turn ends at an act; None where it goes on
+abbrev pub end_seen : Course → Option End
+end_seen GoesOn = None
+end_seen Done = Some None
+end_seen (Failed why) = Some (Some why)
+
+-- as many stores and outputs
+pub record SameSizes (old new : Held) : Type 0 where
+  pub stores : length new.stores ≡ length old.stores
+  pub outputs : length new.unsent ≡ length old.unsent

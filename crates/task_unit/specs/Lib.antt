@@ -1,0 +1,9 @@
+pub mod Acting
+pub mod Appending
+pub mod Held
+pub mod Naming
+pub mod Planned
+pub mod Refused
+pub mod Standing
+pub mod Units
+pub mod Written

@@ -1,0 +1,116 @@
+-- Why a task isn't opened: the first cause in the order in which its files are read.
+use Rattle.std.specs.Prelude.{ℕ, ◌≡◌, ◌<◌, ◌⊎◌, List, length, Option, Some, None}
+use Rattle.samza_model.specs.declared.messages.Record.{Record}
+use Rattle.samza_model.specs.declared.checkpoints.Checkpoint.{Checkpoint}
+use Rattle.samza_model.specs.declared.setups.Setup.{Setup}
+use Rattle.samza_model.specs.Files.{Image, checkpoint_file, changelog_file, output_file}
+use Rattle.samza_model.specs.Logs.{joined, HasFrames, HasNoLog}
+use Rattle.samza_model.specs.Restored.{count_at, EndsWith, IsNamed, IsMarked}
+use Rattle.task_unit.specs.declared.faults.OpenFault.{OpenFault}
+use Rattle.task_unit.specs.declared.faults.OpenFault.TheVariants.{Device, Damaged, Shape, Ahead, Tail, NoMemory}
+use Rattle.checkpoint_log.specs.Ends.{IsBadEnd}
+use Rattle.topic_log.specs.declared.faults.LogFault.{LogFault}
+use Rattle.topic_log.specs.declared.faults.LogFault.TheVariants.{Device as LogDevice, Damaged as LogDamaged, NoMemory as LogNoMemory}
+
+-- a log's fault, told of this file
+abbrev pub IsOpeningOf : ℕ → LogFault → OpenFault → Type 0
+IsOpeningOf file LogDevice e = e ≡ Device
+IsOpeningOf file (LogDamaged at) e = e ≡ Damaged None file at
+IsOpeningOf file LogNoMemory e = e ≡ NoMemory
+IsOpeningOf file f e = ⊥
+
+-- a file of the task isn't opened: the device, want of memory, or it is no log
+abbrev pub WhyNoFile : Image → ℕ → OpenFault → Type 0
+WhyNoFile image file Device = Unit {0}
+WhyNoFile image file (Damaged None f at) = (f ≡ file) × HasNoLog (image file)
+WhyNoFile image file NoMemory = Unit {0}
+WhyNoFile image file e = ⊥
+
+-- the checkpoint file has frames, and they end with no checkpoint; the last one's first byte is at
+pub record EndsBadly (image : Image) (at : ℕ) : Type 0 where
+  pub frames : List (List Record)
+  pub has : HasFrames (image checkpoint_file) frames
+  pub bad : IsBadEnd frames at
+
+-- the last checkpoint has other names
+pub record HasOtherNames (s : Setup) (image : Image) : Type 0 where
+  pub frames : List (List Record)
+  pub has : HasFrames (image checkpoint_file) frames
+  pub mark : Checkpoint
+  pub ends : EndsWith frames mark
+  pub other : IsNamed s mark → ⊥
+
+-- there is no checkpoint of this setup to be had
+abbrev pub WhyNoMark : Setup → Image → OpenFault → Type 0
+WhyNoMark s image Device = Unit {0}
+WhyNoMark s image (Damaged None file at) = (file ≡ checkpoint_file) × (HasNoLog (image checkpoint_file) ⊎ EndsBadly image at)
+WhyNoMark s image Shape = HasOtherNames s image
+WhyNoMark s image NoMemory = Unit {0}
+WhyNoMark s image e = ⊥
+
+-- the changelog of a store has so many records
+pub record HasChanges (image : Image) (store held : ℕ) : Type 0 where
+  pub frames : List (List Record)
+  pub has : HasFrames (image (changelog_file store)) frames
+  pub held_is : held ≡ length (joined frames)
+
+-- a count of the checkpoint against the records that there are: fewer, or more
+abbrev pub IsMiscount : ℕ → ℕ → ℕ → OpenFault → Type 0
+IsMiscount store count have (Ahead None (Some s) wanted held) = (s ≡ store) × (wanted ≡ count) × (held ≡ have) × (held < wanted)
+IsMiscount store count have (Tail s wanted held) = (s ≡ store) × (wanted ≡ count) × (held ≡ have) × (wanted < held)
+IsMiscount store count have e = ⊥
+
+-- a store isn't opened: its changelog is no log, or has fewer records than the checkpoint counts, or more
+abbrev pub WhyNoStore : Image → ℕ → ℕ → OpenFault → Type 0
+WhyNoStore image store count Device = Unit {0}
+WhyNoStore image store count (Damaged None file at) = (file ≡ changelog_file store) × HasNoLog (image file)
+WhyNoStore image store count (Ahead None (Some s) wanted held) = (s ≡ store) × (wanted ≡ count) × HasChanges image store held × (held < wanted)
+WhyNoStore image store count (Tail s wanted held) = (s ≡ store) × (wanted ≡ count) × HasChanges image store held × (wanted < held)
+WhyNoStore image store count NoMemory = Unit {0}
+WhyNoStore image store count e = ⊥
+
+-- each of the first so many changelogs has as many records as the checkpoint counts
+abbrev pub CountsHold : Image → Option Checkpoint → ℕ → Type 0
+CountsHold image mark n = (i : ℕ) → i < n → HasChanges image i (count_at mark i)
+
+-- one of the stores isn't opened, and those before it are
+pub record WhyNoStores (image : Image) (mark : Option Checkpoint) (n : ℕ) (e : OpenFault) : Type 0 where
+  pub store : ℕ
+  pub within : store < n
+  pub before : CountsHold image mark store
+  pub why : WhyNoStore image store (count_at mark store) e
+
+-- each of the first so many outputs' files is a log
+abbrev pub OutputsHold : Image → ℕ → Type 0
+OutputsHold image n = (j : ℕ) → j < n → (frames : List (List Record)) × HasFrames (image (output_file j)) frames
+
+-- one of the outputs' logs isn't opened, and those before it are
+pub record WhyNoOutputs (image : Image) (n : ℕ) (e : OpenFault) : Type 0 where
+  pub output : ℕ
+  pub within : output < n
+  pub before : OutputsHold image output
+  pub why : WhyNoFile image (output_file output) e
+
+-- the image has this checkpoint, and one of its stores isn't opened
+pub record StoresRefused (s : Setup) (image : Image) (e : OpenFault) : Type 0 where
+  pub mark : Option Checkpoint
+  pub marked : IsMarked s image mark
+  pub why : WhyNoStores image mark (length s.stores) e
+
+-- the image has this checkpoint, all stores are opened, and one of its outputs isn't
+pub record OutputsRefused (s : Setup) (image : Image) (e : OpenFault) : Type 0 where
+  pub mark : Option Checkpoint
+  pub marked : IsMarked s image mark
+  pub counts : CountsHold image mark (length s.stores)
+  pub why : WhyNoOutputs image (length s.outputs) e
+
+-- why a task's files don't restore: the checkpoint, then the stores, then the outputs
+abbrev pub WhyRefused : Setup → Image → OpenFault → Type 0
+WhyRefused s image e = WhyNoMark s image e ⊎ (StoresRefused s image e ⊎ OutputsRefused s image e)
+
+-- the input isn't read: the device, want of memory, or its partition's file is no log
+abbrev pub WhyNoInput : Type 0 → List ℕ → ℕ → OpenFault → Type 0
+WhyNoInput tells bytes partition Device = Unit {0}
+WhyNoInput tells bytes partition (Damaged input file at) = (input ≡ Some 0) × (file ≡ partition) × (tells → HasNoLog bytes)
+WhyNoInput tells bytes partition NoMemory = Unit {0}
+WhyNoInput tells bytes partition e = ⊥

@@ -1,0 +1,59 @@
+-- A task's logs as they stand open on its disk.
+use Rattle.std.specs.Prelude.{ℕ, ◌≡◌, ◌<◌, ◌≤◌, false, List, length, Option, slice_index_or}
+use Rattle.samza_model.specs.declared.messages.Record.{Record}
+use Rattle.samza_model.specs.declared.checkpoints.Checkpoint.{Checkpoint}
+use Rattle.samza_model.specs.declared.setups.Setup.{Setup}
+use Rattle.samza_model.specs.Content.{Content, foldrec, store_at}
+use Rattle.samza_model.specs.Files.{Image, checkpoint_file, changelog_file, output_file}
+use Rattle.samza_model.specs.Logs.{joined, HasFrames}
+use Rattle.samza_model.specs.Restored.{count_at, HasMark}
+use Rattle.topic_log.specs.declared.logs.Log.{Log}
+use Rattle.topic_log.specs.Opened.{file_of, is_broken, IsOpen}
+
+-- the log of this file is open with these frames
+pub record IsOpenAt (reads : Image) (images : Image → Type 0) (file : ℕ) (log : Log) (frames : List (List Record)) : Type 0 where
+  pub file_is : file_of log ≡ file
+  pub sound : is_broken log ≡ false
+  pub is_open : IsOpen reads images log frames
+
+-- the log of this file is open with the frames that the file had before
+pub record StandsAt (before reads : Image) (images : Image → Type 0) (file : ℕ) (log : Log) : Type 0 where
+  pub frames : List (List Record)
+  pub had : HasFrames (before file) frames
+  pub is_open : IsOpenAt reads images file log frames
+
+-- a store's changelog is open, and all its records, which are as many as the checkpoint counts, make the content
+pub record HoldsStore (before reads : Image) (images : Image → Type 0) (file count : ℕ) (log : Log) (content : Content) : Type 0 where
+  pub frames : List (List Record)
+  pub had : HasFrames (before file) frames
+  pub is_open : IsOpenAt reads images file log frames
+  pub count_is : count ≡ length (joined frames)
+  pub content_is : content ≡ foldrec (joined frames)
+
+-- the checkpoint file's log is open, and its frames end with this checkpoint
+pub record HoldsMark (s : Setup) (before reads : Image) (images : Image → Type 0) (log : Log) (mark : Option Checkpoint) : Type 0 where
+  pub frames : List (List Record)
+  pub had : HasFrames (before checkpoint_file) frames
+  pub is_open : IsOpenAt reads images checkpoint_file log frames
+  pub mark_is : HasMark s frames mark
+
+-- the first so many changelogs are open, each with its store's content
+pub record HoldsStores (before reads : Image) (images : Image → Type 0) (mark : Option Checkpoint) (n : ℕ) (logs : List Log) (stores : List Content) : Type 0 where
+  pub logs_are : length logs ≡ n
+  pub stores_are : length stores ≡ n
+  pub each : (i : ℕ) (d : Log) → i < n → HoldsStore before reads images (changelog_file i) (count_at mark i) (slice_index_or logs i d) (store_at stores i)
+
+-- the first so many outputs' logs are open
+pub record HoldsOutputs (before reads : Image) (images : Image → Type 0) (n : ℕ) (logs : List Log) : Type 0 where
+  pub logs_are : length logs ≡ n
+  pub each : (j : ℕ) (d : Log) → j < n → StandsAt before reads images (output_file j) (slice_index_or logs j d)
+
+-- the files from this one on read the same
+abbrev pub SameFrom : ℕ → Image → Image → Type 0
+SameFrom file old new = (f : ℕ) → file ≤ f → new f ≡ old f
+
+-- the logs are open as they were found, and the stores have their contents at the checkpoint
+pub record IsRestored (s : Setup) (before reads : Image) (images : Image → Type 0) (mark : Option Checkpoint) (marks : Log) (changelogs outputs : List Log) (stores : List Content) : Type 0 where
+  pub mark_is : HoldsMark s before reads images marks mark
+  pub stores_are : HoldsStores before reads images mark (length s.stores) changelogs stores
+  pub outputs_are : HoldsOutputs before reads images (length s.outputs) outputs

@@ -1,0 +1,126 @@
+-- A task's unit: what it holds, what stands on its disk, and what its calls do.
+use Rattle.std.specs.Prelude.{ℕ, ◌≡◌, ◌<◌, ◌≤◌, ◌+◌, ◌-◌, Bool, false, List, [], ◌++◌, length, Option, Some, None, slice_get, slice_index_or}
+use Rattle.std.specs.List.{AllByRecursion}
+use Rattle.std.specs.FinMap as fin
+use Rattle.std.specs.Coded.{Coded, coded_list, coded_ℕ}
+use Rattle.samza_model.specs.declared.messages.Record.{Record}
+use Rattle.samza_model.specs.declared.messages.Envelope.{Envelope}
+use Rattle.samza_model.specs.declared.checkpoints.Checkpoint.{Checkpoint}
+use Rattle.samza_model.specs.declared.setups.Setup.{Setup}
+use Rattle.samza_model.specs.declared.setups.InputSetup.{InputSetup}
+use Rattle.samza_model.specs.declared.setups.OffsetDefault.TheVariants.{Oldest}
+use Rattle.samza_model.specs.declared.turns.Failure.{Failure}
+use Rattle.samza_model.specs.declared.turns.Turn.TheVariants.{Call}
+use Rattle.samza_model.specs.Checkpoint.{IsWellFormed}
+use Rattle.samza_model.specs.Content.{Content, State, foldrec, sent_at}
+use Rattle.samza_model.specs.Files.{Image, checkpoint_file, changelog_file, output_file}
+use Rattle.samza_model.specs.Logs.{joined, HasLog}
+use Rattle.samza_model.specs.Meaning.{Meaning}
+use Rattle.samza_model.specs.Restored.{HasMark, IsNamed, Restores, id_of, next_at, count_at}
+use Rattle.samza_model.specs.Runs.{runs}
+use Rattle.kv_store.specs.Tracked.{Tracked, AgreesOnClean}
+use Rattle.topic_log.specs.declared.logs.Log.{Log}
+use Rattle.task_unit.specs.declared.acting.Holdings.{Holdings}
+use Rattle.task_unit.specs.declared.writing.Logs.{Logs}
+use Rattle.task_unit.specs.Acting.{held, undos_of, IsSized}
+use Rattle.task_unit.specs.Appending.{AreOpen}
+use Rattle.task_unit.specs.Held.{Held, tracked_at}
+use Rattle.task_unit.specs.Standing.{IsOpenAt}
+use Rattle.task_unit.specs.Written.{AreSound}
+
+-- a setup of one input, for which a checkpoint with its names has a spelling
+pub record IsSetUp (s : Setup) : Type 0 where
+  pub one_input : length s.inputs ≡ 1
+  pub spelled : (k : Checkpoint) → IsNamed s k → IsWellFormed k
+  pub few_stores : length s.stores ≤ 8
+  pub few_outputs : length s.outputs ≤ 8
+  pub batches : AllByRecursion (λ t. (1 ≤ t.batch) × (t.batch ≤ 4096)) s.stores
+
+-- a store's changelog is open, has as many records as the checkpoint counts, and makes a content that the store has but for its dirty keys
+pub record StoreStands (reads : Image) (images : Image → Type 0) (file count : ℕ) (log : Log) (t : Tracked) : Type 0 where
+  pub frames : List (List Record)
+  pub is_open : IsOpenAt reads images file log frames
+  pub count_is : count ≡ length (joined frames)
+  pub agrees : AgreesOnClean t (foldrec (joined frames))
+
+-- the checkpoint file's log is open and ends with this checkpoint
+pub record MarkStands (s : Setup) (reads : Image) (images : Image → Type 0) (log : Log) (mark : Option Checkpoint) : Type 0 where
+  pub frames : List (List Record)
+  pub is_open : IsOpenAt reads images checkpoint_file log frames
+  pub mark_is : HasMark s frames mark
+
+-- the task's logs are open at this checkpoint, and what is held is what they make but for what isn't committed
+pub record OnDisk (reads : Image) (images : Image → Type 0) (s : Setup) (logs : Logs) (mark : Option Checkpoint) (h : Held) : Type 0 where
+  pub marks : MarkStands s reads images logs.marks mark
+  pub stores : (i : ℕ) (d : Log) → i < length s.stores → StoreStands reads images (changelog_file i) (count_at mark i) (slice_index_or logs.changelogs.items i d) (tracked_at h.stores i)
+  pub outputs : AreOpen reads images (output_file 0) logs.outputs.items
+
+-- what a unit keeps
+pub record IsUnit {D : Type 0} (tells : Type 0) (reads : D → Image) (images : D → Image → Type 0) (s : Setup) (disk : D) (logs : Logs) (mark : Option Checkpoint) (h : Holdings) (messages : List Record) (begun next : ℕ) (broken : Bool) : Type 0 where
+  pub set_up : IsSetUp s
+  pub sized : IsSized s (held h)
+  pub idle : undos_of h ≡ []
+  pub changelogs_are : length logs.changelogs.items ≡ length s.stores
+  pub outputs_are : length logs.outputs.items ≡ length s.outputs
+  pub begins : begun ≤ next
+  pub within : next ≤ length messages
+  pub sound : broken ≡ false → AreSound logs
+  pub stands : broken ≡ false → tells → OnDisk (reads disk) (images disk) s logs mark (held h)
+
+-- each output's log has what it had, followed by what was sent
+abbrev pub SendsFollow : Image → Image → Setup → List (List Record) → Type 0
+SendsFollow before after s unsent = (j : ℕ) (had : List Record) → j < length s.outputs → HasLog (before (output_file j)) had → HasLog (after (output_file j)) (had ++ sent_at unsent j)
+
+-- the image has the next checkpoint: its number is one more, it covers all below the next offset, and it restores to these contents
+pub record IsCommitted (s : Setup) (before after : Image) (mark : Option Checkpoint) (next : ℕ) (state : State) (made : Checkpoint) : Type 0 where
+  pub id_is : made.id ≡ id_of mark + 1
+  pub next_is : next_at (Some made) 0 ≡ Some next
+  pub restores : Restores s after (Some made) state.stores
+  pub sends : SendsFollow before after s state.sent
+
+abbrev pub content_code : Coded Content
+content_code = fin.code (coded_list coded_ℕ) (coded_list coded_ℕ)
+
+-- what a unit is to contracts: its job as plain data, what it was given, and what it holds
+pub record UnitValue (P D S : Type 0) : Type 0 where
+  pub job : P
+  pub setup : Setup
+  pub disk : D
+  pub shelf : S
+  -- the messages of its input
+  pub messages : List Record
+  -- the offset at which it began, and the next one
+  pub begun : ℕ
+  pub next : ℕ
+  -- the stores' contents, and what each output was sent since the last commit
+  pub state : State
+  -- the last checkpoint
+  pub mark : Option Checkpoint
+  -- a commit was begun and not finished
+  pub broken : Bool
+
+-- the setup's one input
+abbrev pub input_of : Setup → InputSetup
+input_of s = slice_index_or s.inputs 0 (record { ssp = record { system = []; stream = []; partition = 0 }; fallback = Oldest; reset = false })
+
+-- the input's message at an offset, with its place
+pub record IsMessage (s : Setup) (messages : List Record) (offset : ℕ) (e : Envelope) : Type 0 where
+  pub ssp_is : e.ssp ≡ (input_of s).ssp
+  pub offset_is : e.offset ≡ offset
+  pub body_is : slice_get messages offset ≡ Some e.body
+
+-- the job was done with the next message, and the unit stands behind it
+pub record IsProcessed (job : Meaning) (s : Setup) (messages : List Record) (next : ℕ) (state : State) (next' : ℕ) (state' : State) : Type 0 where
+  pub message : Envelope
+  pub is_next : IsMessage s messages next message
+  pub ended : (runs job s message state).end ≡ None
+  pub state_is : (runs job s message state).state ≡ state'
+  pub next_is : next' ≡ next + 1
+
+-- the job failed the next message
+pub record IsFailed (job : Meaning) (s : Setup) (messages : List Record) (begun next : ℕ) (state : State) (f : Failure) : Type 0 where
+  pub message : Envelope
+  pub is_next : IsMessage s messages next message
+  pub ended : (runs job s message state).end ≡ Some f.why
+  pub turn_is : f.turn ≡ Call (next - begun)
+  pub place_is : f.place ≡ Some (0, next)

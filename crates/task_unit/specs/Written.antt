@@ -1,0 +1,43 @@
+-- What a commit writes to a task's logs.
+use Rattle.std.specs.Prelude.{◌≡◌, ◌≤◌, false, All, List, [], ◌∷◌, ◌++◌, length}
+use Rattle.samza_model.specs.declared.messages.Record.{Record}
+use Rattle.samza_model.specs.Files.{Image, checkpoint_file, changelog_file, output_file}
+use Rattle.log_frame.specs.Frame.{FrameView, IsFrame}
+use Rattle.topic_log.specs.declared.logs.Log.{Log}
+use Rattle.topic_log.specs.Opened.{is_broken}
+use Rattle.task_unit.specs.Appending.{AreOpen, AreAppended}
+use Rattle.task_unit.specs.Standing.{IsOpenAt}
+use Rattle.task_unit.specs.declared.writing.Logs.{Logs}
+use Rattle.task_unit.specs.declared.writing.Plan.{Plan}
+
+abbrev pub AllSound : List Log → Type 0
+AllSound logs = All (λ (l : Log). is_broken l ≡ false) logs
+
+-- no call on a log answered Device
+pub record AreSound (logs : Logs) : Type 0 where
+  pub marks : is_broken logs.marks ≡ false
+  pub changelogs : AllSound logs.changelogs.items
+  pub outputs : AllSound logs.outputs.items
+
+-- the logs are open at their files
+pub record StandOpen (reads : Image) (images : Image → Type 0) (logs : Logs) : Type 0 where
+  pub marks : (frames : List (List Record)) × IsOpenAt reads images checkpoint_file logs.marks frames
+  pub changelogs : AreOpen reads images (changelog_file 0) logs.changelogs.items
+  pub outputs : AreOpen reads images (output_file 0) logs.outputs.items
+
+-- one list of frames a log, and the changelogs' files lie below the outputs'
+pub record IsPlanFor (logs : Logs) (plan : Plan) : Type 0 where
+  pub changes : length plan.changes.items ≡ length logs.changelogs.items
+  pub sends : length plan.sends.items ≡ length logs.outputs.items
+  pub few : length logs.changelogs.items ≤ 15
+
+-- the checkpoint file's log has one frame more
+abbrev pub MarksAppended : Image → (Image → Type 0) → Image → (Image → Type 0) → Log → Log → FrameView → Type 0
+MarksAppended reads images reads' images' log log' frame = (before : List (List Record)) (r : Record)
+    → IsOpenAt reads images checkpoint_file log before → IsFrame frame (r ∷ []) → IsOpenAt reads' images' checkpoint_file log' (before ++ (r ∷ []) ∷ [])
+
+-- each log has the frames that it had, followed by the plan's
+pub record Follows (reads : Image) (images : Image → Type 0) (reads' : Image) (images' : Image → Type 0) (logs logs' : Logs) (plan : Plan) : Type 0 where
+  pub marks : MarksAppended reads images reads' images' logs.marks logs'.marks plan.frame
+  pub changelogs : AreAppended reads images reads' images' (changelog_file 0) logs.changelogs.items logs'.changelogs.items plan.changes.items
+  pub outputs : AreAppended reads images reads' images' (output_file 0) logs.outputs.items logs'.outputs.items plan.sends.items

@@ -1,0 +1,210 @@
+// Where a unit begins: its files restored, its input read, and its first message found.
+ghost use Rattle.std.specs.Prelude.{◌≡◌, ◌≢◌, ◌≤◌, ◌<◌, ◌⊎◌, ℕ, [], false, List, length, Some, None, IfOk, IfErr, IfSome};
+ghost use Rattle.samza_model.specs.declared.messages.Record.{Record as RecordValue};
+ghost use Rattle.samza_model.specs.declared.messages.Envelope.{Envelope as EnvelopeValue};
+ghost use Rattle.samza_model.specs.declared.checkpoints.Checkpoint.{Checkpoint as CheckpointValue};
+ghost use Rattle.samza_model.specs.Content.{sent_at};
+ghost use Rattle.samza_model.specs.Counters.{Rose};
+ghost use Rattle.samza_model.specs.Logs.{HasLog};
+ghost use Rattle.samza_model.specs.Restored.{Restores, next_at, start_of};
+ghost use Rattle.task_unit.specs.Acting.{held, undos_of, IsSized};
+ghost use Rattle.task_unit.specs.Held.{state_of};
+ghost use Rattle.task_unit.specs.Refused.{WhyNoInput};
+ghost use Rattle.task_unit.specs.Units.{IsSetUp, IsMessage, OnDisk, input_of};
+ghost use Rattle.task_unit.specs.Written.{AreSound};
+
+use crate::OpenFault;
+use crate::acting::Holdings;
+use crate::restoring::restore;
+use crate::sends::Sends;
+use crate::writing::Logs;
+use disk_model::{Disk, Shelf};
+use kv_store::TrackedTable;
+use samza_model::{
+    Checkpoint, Envelope, InputSetup, NoMemory, OffsetDefault, Plain, Record, Setup,
+};
+use std::alloc::Global;
+use topic_log::{LogFault, read_shelf};
+
+/// What a unit begins with.
+#[derive(Drop)]
+pub(crate) struct Started {
+    pub(crate) logs: Logs,
+    pub(crate) mark: Option<Checkpoint>,
+    pub(crate) holdings: Holdings,
+    pub(crate) messages: Vec<Record>,
+    pub(crate) next: u64,
+}
+
+/// The input's message at an offset, with its place.
+pub(crate) fn envelope_at(
+    alloc: Global,
+    setup: &Setup,
+    messages: &[Record],
+    offset: u64,
+) -> Result<Option<Envelope>, NoMemory>
+    requires { length setup.now.inputs ≡ 1 }
+    ensures some { (e : EnvelopeValue) → result ≡ Ok (Some e) → IsMessage setup.now messages.now offset e }
+    ensures within { IfOk result (λ o. IfSome o (λ _. offset < length messages.now)) }
+    ensures none { result ≡ Ok None → length messages.now ≤ offset }
+{
+    match messages.get(offset as usize) {
+        Some(body) => Ok(Some(Envelope {
+            ssp: setup.inputs.as_slice()[0].ssp.copy(alloc)?,
+            offset,
+            body: body.copy(alloc)?,
+        })),
+        None => Ok(None),
+    }
+}
+
+/// Outputs to which nothing was sent.
+fn no_sends(alloc: Global, outputs: usize) -> Result<Vec<Sends>, NoMemory>
+    ensures as_many { IfOk result (λ r. length r.items ≡ outputs) }
+    ensures none { IfOk result (λ r. (j : ℕ) → j < outputs → sent_at r.items j ≡ []) }
+{
+    let mut unsent = Vec::new(alloc);
+    for _j in 0..outputs {
+        unsent.push(Sends::new(alloc))?;
+    }
+    Ok(unsent)
+}
+
+/// An input's first offset: the kept one, unless there is none or the input is reset.
+fn first_offset(kept: Option<u64>, input: &InputSetup, end: u64) -> Result<u64, OpenFault>
+    ensures start { IfOk result (λ n. (records : List RecordValue) → end ≡ length records → n ≡ start_of kept input.now (record { first = 0; records = records })) }
+    ensures within { IfOk result (λ n. n ≤ end) }
+    ensures never { IfErr result (λ e. e ≢ OpenFault.Device) }
+    ensures ahead { IfErr result (λ e. (next : ℕ) × (e ≡ OpenFault.Ahead (Some 0) None next end) × (kept ≡ Some next) × (input.now.reset ≡ false) × (end < next)) }
+{
+    match kept {
+        Some(next) if !input.reset => {
+            if end < next {
+                return Err(OpenFault::Ahead {
+                    input: Some(0),
+                    store: None,
+                    wanted: next,
+                    held: end,
+                });
+            }
+            Ok(next)
+        }
+        _ => match input.fallback {
+            OffsetDefault::Oldest => Ok(0),
+            OffsetDefault::Upcoming => Ok(end),
+        },
+    }
+}
+
+/// The first uncovered offset of the checkpoint's first input.
+fn kept_offset(mark: &Option<Checkpoint>) -> Option<u64>
+    ensures kept { (k : CheckpointValue) → mark.now ≡ Some k → 0 < length k.inputs → result ≡ next_at mark.now 0 }
+    ensures none { mark.now ≡ None → result ≡ None }
+{
+    match mark {
+        Some(checkpoint) => match checkpoint.inputs.as_slice().get(0) {
+            Some(input) => Some(input.next),
+            None => None,
+        },
+        None => None,
+    }
+}
+
+/// The setup's one input.
+fn first_input(setup: &Setup) -> &InputSetup
+    requires { length setup.now.inputs ≡ 1 }
+    ensures { result.now ≡ input_of setup.now }
+{
+    &setup.inputs.as_slice()[0]
+}
+
+/// What a unit holds at its start.
+fn hold(alloc: Global, stores: Vec<TrackedTable>, outputs: usize) -> Result<Holdings, NoMemory>
+    ensures stores { IfOk result (λ h. (held h).stores ≡ stores.items) }
+    ensures outputs { IfOk result (λ h. length (held h).unsent ≡ outputs) }
+    ensures none { IfOk result (λ h. (j : ℕ) → j < outputs → sent_at (held h).unsent j ≡ []) }
+    ensures idle { IfOk result (λ h. undos_of h ≡ []) }
+{
+    let unsent = no_sends(alloc, outputs)?;
+    Ok(Holdings::new(alloc, stores, unsent))
+}
+
+/// An input's messages.
+fn read_input<S: Shelf>(
+    alloc: Global,
+    shelf: &mut S,
+    partition: u32,
+) -> Result<Vec<Record>, OpenFault>
+    ensures log { IfOk result (λ records. S.tells → HasLog (S.bytes shelf.old) records.items) }
+    ensures why { IfErr result (λ e. WhyNoInput S.tells (S.bytes shelf.old) partition e) }
+    ensures device { IfErr result (λ e. e ≡ OpenFault.Device → Rose (S.fault_count shelf.old) (S.fault_count shelf.new)) }
+    ensures later { S.fault_count shelf.old ≤ S.fault_count shelf.new }
+    ensures name { S.name shelf.new ≡ S.name shelf.old }
+    ensures file { S.file shelf.new ≡ S.file shelf.old }
+{
+    match read_shelf(alloc, shelf) {
+        Ok(records) => Ok(records),
+        Err(LogFault::Device) => Err(OpenFault::Device),
+        Err(LogFault::Damaged { at }) => Err(OpenFault::Damaged {
+            input: Some(0),
+            file: partition,
+            at,
+        }),
+        Err(LogFault::NoMemory) => Err(OpenFault::NoMemory),
+        Err(LogFault::Limit | LogFault::Broken) => unreachable!(),
+    }
+}
+
+/// Restores the task, reads its input, and finds the input's first message to process.
+pub(crate) fn start<D: Disk, S: Shelf>(
+    alloc: Global,
+    setup: &Setup,
+    disk: &mut D,
+    shelf: &mut S,
+) -> Result<Started, OpenFault>
+    requires { IsSetUp setup.now }
+    ensures on_disk { IfOk result (λ r. D.tells → OnDisk (D.reads disk.new) (D.images disk.new) setup.now r.logs r.mark (held r.holdings)) }
+    ensures restored { IfOk result (λ r. D.tells → Restores setup.now (D.reads disk.old) r.mark (state_of (held r.holdings)).stores) }
+    ensures unsent { IfOk result (λ r. (j : ℕ) → j < length setup.now.outputs → sent_at (held r.holdings).unsent j ≡ []) }
+    ensures messages { IfOk result (λ r. S.tells → HasLog (S.bytes shelf.old) r.messages.items) }
+    ensures start { IfOk result (λ r. r.next ≡ start_of (next_at r.mark 0) (input_of setup.now) (record { first = 0; records = r.messages.items })) }
+    ensures within { IfOk result (λ r. r.next ≤ length r.messages.items) }
+    ensures sized { IfOk result (λ r. IsSized setup.now (held r.holdings)) }
+    ensures idle { IfOk result (λ r. undos_of r.holdings ≡ []) }
+    ensures changelogs { IfOk result (λ r. length r.logs.changelogs.items ≡ length setup.now.stores) }
+    ensures outputs { IfOk result (λ r. length r.logs.outputs.items ≡ length setup.now.outputs) }
+    ensures sound { IfOk result (λ r. AreSound r.logs) }
+    ensures device { IfErr result (λ e. e ≡ OpenFault.Device → Rose (D.fault_count disk.old) (D.fault_count disk.new) ⊎ Rose (S.fault_count shelf.old) (S.fault_count shelf.new)) }
+    ensures later { (D.fault_count disk.old ≤ D.fault_count disk.new) × (S.fault_count shelf.old ≤ S.fault_count shelf.new) }
+    ensures name { D.name disk.new ≡ D.name disk.old }
+    ensures shelf { (S.name shelf.new ≡ S.name shelf.old) × (S.file shelf.new ≡ S.file shelf.old) }
+{
+    let restored = match restore(alloc, disk, setup) {
+        Ok(restored) => restored,
+        Err(fault) => return Err(fault),
+    };
+    let input = first_input(setup);
+    let messages = match read_input(alloc, shelf, input.ssp.partition) {
+        Ok(messages) => messages,
+        Err(fault) => return Err(fault),
+    };
+    let next = match first_offset(
+        kept_offset(&restored.mark),
+        input,
+        messages.as_slice().len() as u64,
+    ) {
+        Ok(next) => next,
+        Err(fault) => return Err(fault),
+    };
+    let holdings = match hold(alloc, restored.tables, setup.outputs.as_slice().len()) {
+        Ok(holdings) => holdings,
+        Err(_) => return Err(OpenFault::NoMemory),
+    };
+    Ok(Started {
+        logs: restored.logs,
+        mark: restored.mark,
+        holdings,
+        messages,
+        next,
+    })
+}

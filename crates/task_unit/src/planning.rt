@@ -1,0 +1,122 @@
+// What a commit is going to append, made before anything is written.
+ghost use Rattle.std.specs.Prelude.{◌≡◌, ◌≢◌, ◌≤◌, ◌++◌, ◌∷◌, [], length, Some, IfOk, IfErr, OnOk};
+ghost use Rattle.std.specs.List.{AllByRecursion};
+ghost use Rattle.samza_model.specs.declared.messages.Record.{Record};
+ghost use Rattle.samza_model.specs.Checkpoint.{Spells, IsWellFormed};
+ghost use Rattle.samza_model.specs.Limits.{IsWithinLimits};
+ghost use Rattle.samza_model.specs.Restored.{IsNamed, next_at, count_at};
+ghost use Rattle.log_frame.specs.Frame.{IsFrame};
+ghost use Rattle.task_unit.specs.Naming.{mark_names, setup_names};
+ghost use Rattle.task_unit.specs.Planned.{LogsChanges, LogsSends, PlansStores, PlansSends};
+
+use crate::CommitFault;
+use crate::naming::topic_name;
+use crate::restoring::counted;
+use crate::sends::Sends;
+use checkpoint_log::encode_checkpoint;
+use kv_store::TrackedTable;
+use log_frame::{Frame, encode, frames_of};
+use samza_model::{Checkpoint, InputMark, Items, NoMemory, Plain, Setup, StoreMark};
+use std::alloc::Global;
+
+/// The frames of a store's changes, and the number of their records.
+fn plan_store(
+    alloc: Global,
+    store: &TrackedTable,
+    batch: u32,
+) -> Result<(Items<Frame>, u64), NoMemory>
+    requires some { 1 ≤ batch }
+    requires few { batch ≤ 4096 }
+    ensures { IfOk result (λ r. LogsChanges store.now r.0 r.1) }
+{
+    let records = store.unlogged(alloc)?;
+    let frames = frames_of(alloc, records.as_slice(), batch)?;
+    Ok((Items::from_vec(frames), records.len() as u64))
+}
+
+/// Puts an item behind a list.
+fn put<T: Drop>(list: &mut Vec<T>, item: T) -> Result<(), NoMemory>
+    ensures { OnOk result (list.new.items ≡ list.old.items ++ item ∷ []) }
+{
+    list.push(item)?;
+    Ok(())
+}
+
+/// The frames of each store's changes, and how many records the next checkpoint counts of each.
+pub(crate) fn plan_stores(
+    alloc: Global,
+    setup: &Setup,
+    mark: &Option<Checkpoint>,
+    stores: &[TrackedTable],
+) -> Result<(Vec<Items<Frame>>, Vec<StoreMark>), CommitFault>
+    requires as_many { length stores.now ≡ length setup.now.stores }
+    requires batches { AllByRecursion (λ t. (1 ≤ t.batch) × (t.batch ≤ 4096)) setup.now.stores }
+    ensures never { IfErr result (λ e. (e ≢ CommitFault.Failed) × (e ≢ CommitFault.Broken) × (e ≢ CommitFault.Windowing) × (e ≢ CommitFault.Device)) }
+    ensures plans { IfOk result (λ r. PlansStores setup.now mark.now stores.now r.0.items r.1.items) }
+{
+    let mut frames = Vec::new(alloc);
+    let mut marks = Vec::new(alloc);
+    for i in 0..stores.len() {
+        let setup = &setup.stores.as_slice()[i];
+        let (more, count) = plan_store(alloc, &stores[i], setup.batch)?;
+        let count = match counted(mark, i).checked_add(count) {
+            Some(count) => count,
+            None => return Err(CommitFault::Limit),
+        };
+        let name = setup.name.copy(alloc)?;
+        put(&mut frames, more)?;
+        put(&mut marks, StoreMark { name, count })?;
+    }
+    Ok((frames, marks))
+}
+
+/// The frames of what each output was sent, of at most 500 records each.
+pub(crate) fn plan_sends(alloc: Global, unsent: &[Sends]) -> Result<Vec<Items<Frame>>, NoMemory>
+    ensures { IfOk result (λ r. PlansSends unsent.now r.items) }
+{
+    let mut frames = Vec::new(alloc);
+    for sends in unsent {
+        frames.push(Items::from_vec(frames_of(alloc, sends.as_slice(), 500)?))?;
+    }
+    Ok(frames)
+}
+
+/// A checkpoint of the setup.
+pub(crate) fn make_mark(
+    alloc: Global,
+    setup: &Setup,
+    id: u64,
+    next: u64,
+    stores: Vec<StoreMark>,
+) -> Result<Checkpoint, NoMemory>
+    requires one_input { length setup.now.inputs ≡ 1 }
+    requires names { mark_names stores.items ≡ setup_names setup.now.stores }
+    ensures named { IfOk result (λ k. IsNamed setup.now k) }
+    ensures id { IfOk result (λ k. k.id ≡ id) }
+    ensures next { IfOk result (λ k. next_at (Some k) 0 ≡ Some next) }
+    ensures stores { IfOk result (λ k. k.stores ≡ stores.items) }
+{
+    let input = &setup.inputs.as_slice()[0];
+    let mut inputs = Vec::new(alloc);
+    inputs.push(InputMark {
+        stream: topic_name(alloc, &input.ssp)?,
+        partition: input.ssp.partition,
+        next,
+    })?;
+    Ok(Checkpoint {
+        id,
+        inputs: Items::from_vec(inputs),
+        stores: Items::from_vec(stores),
+        outputs: setup.outputs.copy(alloc)?,
+    })
+}
+
+/// The frame of a checkpoint's record alone.
+pub(crate) fn mark_frame(alloc: Global, mark: &Checkpoint) -> Result<Frame, NoMemory>
+    requires { IsWellFormed mark.now }
+    ensures { IfOk result (λ frame. (r : Record) × Spells mark.now r × IsFrame frame (r ∷ [])) }
+{
+    let mut records = Vec::new(alloc);
+    records.push(encode_checkpoint(alloc, mark)?)?;
+    encode(alloc, records.as_slice())
+}
