@@ -1,5 +1,5 @@
 -- A task's unit: what it holds, what stands on its disk, and what its calls do.
-use Rattle.std.specs.Prelude.{ℕ, ◌≡◌, ◌<◌, ◌≤◌, ◌+◌, ◌-◌, Bool, false, List, [], ◌++◌, length, Option, Some, None, slice_get, slice_index_or}
+use Rattle.std.specs.Prelude.{◌⊎◌, ℕ, ◌≡◌, ◌<◌, ◌≤◌, ◌+◌, ◌-◌, Bool, false, List, [], ◌++◌, length, Option, Some, None, slice_get, slice_index_or}
 use Rattle.std.specs.List.{AllByRecursion}
 use Rattle.std.specs.FinMap as fin
 use Rattle.std.specs.Coded.{Coded, coded_list, coded_ℕ}
@@ -16,7 +16,7 @@ use Rattle.samza_model.specs.Content.{Content, State, foldrec, sent_at}
 use Rattle.samza_model.specs.Files.{Image, checkpoint_file, changelog_file, output_file}
 use Rattle.samza_model.specs.Logs.{joined, HasLog}
 use Rattle.samza_model.specs.Meaning.{Meaning}
-use Rattle.samza_model.specs.Restored.{HasMark, IsNamed, Restores, id_of, next_at, count_at}
+use Rattle.samza_model.specs.Restored.{HasMark, IsNamed, Restores, id_of, next_at, count_at, IsMarked}
 use Rattle.samza_model.specs.Runs.{runs}
 use Rattle.kv_store.specs.Tracked.{Tracked, AgreesOnClean}
 use Rattle.topic_log.specs.declared.logs.Log.{Log}
@@ -25,6 +25,9 @@ use Rattle.task_unit.specs.declared.writing.Logs.{Logs}
 use Rattle.task_unit.specs.Acting.{held, undos_of, IsSized}
 use Rattle.task_unit.specs.Appending.{AreOpen}
 use Rattle.task_unit.specs.Held.{Held, tracked_at}
+use Rattle.task_unit.specs.declared.faults.OpenFault.{OpenFault}
+use Rattle.task_unit.specs.declared.faults.OpenFault.TheVariants.{Ahead}
+use Rattle.task_unit.specs.Refused.{WhyRefused, WhyNoInput}
 use Rattle.task_unit.specs.Standing.{IsOpenAt}
 use Rattle.task_unit.specs.Written.{AreSound}
 
@@ -124,3 +127,19 @@ pub record IsFailed (job : Meaning) (s : Setup) (messages : List Record) (begun 
   pub ended : (runs job s message state).end ≡ Some f.why
   pub turn_is : f.turn ≡ Call (next - begun)
   pub place_is : f.place ≡ Some (0, next)
+
+-- the checkpoint's offset of the input passes the input's end
+pub record IsPastEnd (tells told : Type 0) (s : Setup) (image : Image) (bytes : List ℕ) (e : OpenFault) : Type 0 where
+  pub mark : Option Checkpoint
+  pub marked : tells → IsMarked s image mark
+  pub records : List Record
+  pub read : told → HasLog bytes records
+  pub next : ℕ
+  pub kept : next_at mark 0 ≡ Some next
+  pub honoured : (input_of s).reset ≡ false
+  pub past : length records < next
+  pub fault : e ≡ Ahead (Some 0) None next (length records)
+
+-- why a task isn't opened: its files don't restore, its input isn't read, or the kept offset passes the input's end
+abbrev pub WhyNotOpened : Type 0 → Type 0 → Setup → Image → List ℕ → OpenFault → Type 0
+WhyNotOpened tells told s image bytes e = (tells → WhyRefused s image e) ⊎ (WhyNoInput told bytes (input_of s).ssp.partition e ⊎ IsPastEnd tells told s image bytes e)

@@ -10,7 +10,7 @@ ghost use Rattle.samza_model.specs.Restored.{Restores, next_at, start_of};
 ghost use Rattle.task_unit.specs.Acting.{held, undos_of, IsSized};
 ghost use Rattle.task_unit.specs.Held.{state_of};
 ghost use Rattle.task_unit.specs.Refused.{WhyNoInput};
-ghost use Rattle.task_unit.specs.Units.{IsSetUp, IsMessage, OnDisk, input_of};
+ghost use Rattle.task_unit.specs.Units.{IsSetUp, IsMessage, OnDisk, input_of, WhyNotOpened};
 ghost use Rattle.task_unit.specs.Written.{AreSound};
 
 use crate::OpenFault;
@@ -174,6 +174,7 @@ pub(crate) fn start<D: Disk, S: Shelf>(
     ensures changelogs { IfOk result (λ r. length r.logs.changelogs.items ≡ length setup.now.stores) }
     ensures outputs { IfOk result (λ r. length r.logs.outputs.items ≡ length setup.now.outputs) }
     ensures sound { IfOk result (λ r. AreSound r.logs) }
+    ensures why { IfErr result (λ e. WhyNotOpened D.tells S.tells setup.now (D.reads disk.old) (S.bytes shelf.old) e) }
     ensures device { IfErr result (λ e. e ≡ OpenFault.Device → Rose (D.fault_count disk.old) (D.fault_count disk.new) ⊎ Rose (S.fault_count shelf.old) (S.fault_count shelf.new)) }
     ensures later { (D.fault_count disk.old ≤ D.fault_count disk.new) × (S.fault_count shelf.old ≤ S.fault_count shelf.new) }
     ensures name { D.name disk.new ≡ D.name disk.old }

@@ -6,7 +6,7 @@ ghost use Rattle.samza_model.specs.declared.turns.Failure.{Failure as FailureVal
 ghost use Rattle.samza_model.specs.Content.{sent_at};
 ghost use Rattle.samza_model.specs.Logs.{HasLog};
 ghost use Rattle.samza_model.specs.Restored.{Restores, next_at, start_of};
-ghost use Rattle.task_unit.specs.Units.{IsSetUp, IsCommitted, IsProcessed, IsFailed, input_of};
+ghost use Rattle.task_unit.specs.Units.{IsSetUp, IsCommitted, IsProcessed, IsFailed, input_of, WhyNotOpened};
 
 use crate::acting::Holdings;
 use crate::beginning::{envelope_at, start};
@@ -70,6 +70,7 @@ impl<'j, J: Job, D: Disk, S: Shelf> OneUnit<'j, J, D, S> {
         ensures shelf { IfOk result (λ u. (S.name u.shelf ≡ S.name shelf) × (S.file u.shelf ≡ S.file shelf) × (S.fault_count shelf ≤ S.fault_count u.shelf)) }
         ensures back_disk { IfErr result (λ e. (D.name e.1 ≡ D.name disk) × (D.fault_count disk ≤ D.fault_count e.1)) }
         ensures back_shelf { IfErr result (λ e. (S.name e.2 ≡ S.name shelf) × (S.file e.2 ≡ S.file shelf) × (S.fault_count shelf ≤ S.fault_count e.2)) }
+        ensures why { IfErr result (λ e. WhyNotOpened D.tells S.tells setup (D.reads disk) (S.bytes shelf) e.0) }
         ensures device { IfErr result (λ e. e.0 ≡ OpenFault.Device → Rose (D.fault_count disk) (D.fault_count e.1) ⊎ Rose (S.fault_count shelf) (S.fault_count e.2)) }
     {
         let mut disk = disk;

@@ -1,5 +1,9 @@
-use Rattle.std.proofs.Common.{◌∙◌, ap, sym, subst, List, length}
+use Rattle.std.proofs.Common.{◌≡◌, ◌∙◌, ap, sym, subst, List, length, Some, None, inl, inr, arith}
 use Rattle.samza_model.specs.declared.messages.Record.{Record}
+use Rattle.samza_model.specs.declared.setups.InputSetup.{InputSetup}
+use Rattle.task_unit.specs.declared.faults.OpenFault.TheVariants.{Ahead}
+use Rattle.task_unit.specs.Refused.{WhyNoInput}
+use Rattle.task_unit.proofs.Whole.{marked}
 use Rattle.samza_model.specs.Restored.{next_at, start_of}
 use Rattle.kv_store.specs.Tracked.{Tracked}
 use Rattle.task_unit.specs.Acting.{held}
@@ -30,3 +34,30 @@ returns-clause-start g c =
     c.in-Ok-first_offset.ensures.start records (ap (λ (l : List Record). length l) c.as_slice.ensures.value)
     ∙ ap (λ k. start_of k c.first_input-input.result.now (record { first = 0; records = records })) (next_kept s mark c.kept_offset.result c.requires.one_input c.in-Ok.ensures.named c.kept_offset.ensures.kept c.kept_offset.ensures.none)
     ∙ ap (λ i. start_of (next_at mark 0) i (record { first = 0; records = records })) c.first_input-input.ensures
+
+pub returns-in-Err-clause-why : goal.returns-in-Err-clause-why
+returns-in-Err-clause-why g c = inl c.in-Err.ensures.why
+
+pub returns-in-Err-read_input-clause-why : goal.returns-in-Err-read_input-clause-why
+returns-in-Err-read_input-clause-why g c =
+    inr (inl (subst (λ (i : InputSetup). WhyNoInput g.S.Shelf.tells (g.S.Shelf.bytes c.args.shelf.now) i.ssp.partition c.in-Err-read_input.fault) c.first_input-input.ensures c.in-Err-read_input.ensures.why))
+
+pub returns-in-Err-first_offset-clause-why : goal.returns-in-Err-first_offset-clause-why
+returns-in-Err-first_offset-clause-why g c =
+    let disk = g.D.Disk in
+    let s = c.args.setup.now in
+    let r = c.in-Ok.restored in
+    let records = c.in-Ok-read_input.messages.items in
+    let a = c.in-Err-first_offset.ensures.ahead in
+    let end : length c.as_slice.result.now ≡ length records = ap (λ (l : List Record). length l) c.as_slice.ensures.value in
+    inr (inr (record {
+      mark = r.mark;
+      marked = λ told. marked s (disk.reads c.args.disk.now) (disk.reads c.restore.new.disk) (disk.images c.restore.new.disk) r.logs.marks r.mark (c.in-Ok.ensures.restored told).mark_is;
+      records = records;
+      read = c.in-Ok-read_input.ensures.log;
+      next = a.0;
+      kept = sym (next_kept s r.mark c.kept_offset.result c.requires.one_input c.in-Ok.ensures.named c.kept_offset.ensures.kept c.kept_offset.ensures.none) ∙ a.2;
+      honoured = sym (ap (λ (i : InputSetup). i.reset) c.first_input-input.ensures) ∙ a.3;
+      past = omega (arith, a.4, end);
+      fault = a.1 ∙ ap (λ n. Ahead (Some 0) None a.0 n) end;
+    }))
