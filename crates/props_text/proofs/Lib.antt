@@ -1,0 +1,10 @@
+pub mod Ends
+pub mod Halves
+pub mod Keys
+pub mod Puts
+pub mod Search
+pub mod Takes
+pub mod Trip
+pub mod View
+pub mod Visible
+pub mod Writes
