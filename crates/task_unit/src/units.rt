@@ -1,5 +1,5 @@
 // One task's unit: it restores from its files, processes its messages in order, and commits.
-ghost use Rattle.std.specs.Prelude.{◌≡◌, ◌≢◌, ◌≤◌, ◌<◌, ◌+◌, ◌⊎◌, ℕ, [], true, false, length, Option, Some, None, IfOk, IfErr, OnOk, OnErr};
+ghost use Rattle.std.specs.Prelude.{◌≡◌, ◌≢◌, ◌≤◌, ◌<◌, ◌+◌, ◌⊎◌, ℕ, [], true, false, length, Option, Some, None, IfOk, IfErr, OnOk, OnErr, Err};
 ghost use Rattle.samza_model.specs.Counters.{Rose};
 ghost use Rattle.samza_model.specs.declared.checkpoints.Checkpoint.{Checkpoint as CheckpointValue};
 ghost use Rattle.samza_model.specs.declared.turns.Failure.{Failure as FailureValue};
@@ -140,6 +140,8 @@ impl<'j, J: Job, D: Disk, S: Shelf> OneUnit<'j, J, D, S> {
         ensures next { self.new.next ≡ self.old.next }
         ensures ok { OnOk result ((self.old.broken ≡ false) × (self.new.broken ≡ false)) }
         ensures broken { IfErr result (λ e. e ≡ CommitFault.Broken → self.old.broken ≡ true) }
+        ensures breaks { IfErr result (λ e. e ≡ CommitFault.Device → self.new.broken ≡ true) }
+        ensures stays_broken { self.old.broken ≡ true → (result ≡ Err CommitFault.Broken) × (self.new.broken ≡ true) }
         ensures never { IfErr result (λ e. (e ≢ CommitFault.Failed) × (e ≢ CommitFault.Windowing)) }
         ensures device { IfErr result (λ e. e ≡ CommitFault.Device → Rose (D.fault_count self.old.disk) (D.fault_count self.new.disk)) }
         ensures later { D.fault_count self.old.disk ≤ D.fault_count self.new.disk }
