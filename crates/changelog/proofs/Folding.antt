@@ -16,7 +16,8 @@ use Rattle.topic_log.specs.Moves.{Rests}
 use Rattle.topic_log.specs.Opened.{IsOpen}
 use Rattle.topic_log.proofs.Moving.{rests_then}
 use Rattle.topic_log.proofs.Spelling.{joined-push}
-use Rattle.changelog.proofs.Replaying.{replayed-append, within-replayed}
+use Rattle.kv_store.proofs.Updates.{replayed-append}
+use Rattle.changelog.proofs.Replaying.{within-replayed}
 
 -- the content is that of the frames before the place
 pub record FoldedAt (frames : List (List Record)) (place : Place) (content : Content) : Type 0 where

@@ -1,5 +1,6 @@
 pub mod ByName
 pub mod Counts
+pub mod CrashSteps
 pub mod HostSteps
 pub mod Moments
 pub mod Replays

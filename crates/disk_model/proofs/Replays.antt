@@ -5,7 +5,7 @@ use Rattle.std.proofs.lemmas.List.{take-append-le, drop-append-le, take_all, dro
 use Rattle.disk_model.specs.Held.{Held, no_bytes}
 use Rattle.disk_model.specs.FileStates.{FileState, after, at_rest, replayed, with_cut, with_written}
 use Rattle.disk_model.specs.TraceWords.{AtFile}
-use Rattle.disk_model.specs.Traces.{bytes_at, is_still, reach_of, state_of, used_by, without}
+use Rattle.disk_model.specs.Traces.{bytes_at, end_of, is_still, reach_of, state_of, used_by, without}
 use Rattle.disk_model.specs.declared.traces.Entry.{Entry}
 use Rattle.disk_model.specs.declared.traces.Entry.TheVariants.{Quiet, Shortened, Synced, Wrote}
 
@@ -80,6 +80,12 @@ still_reach Quiet n still = omega arith
 still_reach (Wrote file at from len) n still = cc
 still_reach (Shortened file size) n still = omega arith
 still_reach (Synced file) n still = omega arith
+
+pub still_end : (e : Entry) (n : ℕ) → is_still e ≡ true → end_of e ≤ n
+still_end Quiet n still = omega arith
+still_end (Wrote file at from len) n still = cc
+still_end (Shortened file size) n still = omega arith
+still_end (Synced file) n still = omega arith
 
 module _ (start : List Held) (noted noted' : List Entry) (e : Entry) (w : List ℕ) (is : noted' ≡ noted ++ e ∷ []) where
   -- one entry more that needs no written bytes
@@ -256,12 +262,21 @@ reach_without g (Wrote file at from len) n le = elim (file == g) as (λ v. reach
 reach_without g (Shortened file size) n le = elim (file == g) as (λ v. reach_of (if v then Quiet else Shortened file size) ≤ n) [ true ↦ omega arith | false ↦ le ]
 reach_without g (Synced file) n le = elim (file == g) as (λ v. reach_of (if v then Quiet else Synced file) ≤ n) [ true ↦ omega arith | false ↦ le ]
 
+end_without : (g : ℕ) (e : Entry) (n : ℕ) → end_of e ≤ n → end_of (without g e) ≤ n
+end_without g Quiet n le = le
+end_without g (Wrote file at from len) n le = elim (file == g) as (λ v. end_of (if v then Quiet else Wrote file at from len) ≤ n) [ true ↦ omega arith | false ↦ le ]
+end_without g (Shortened file size) n le = elim (file == g) as (λ v. end_of (if v then Quiet else Shortened file size) ≤ n) [ true ↦ omega arith | false ↦ le ]
+end_without g (Synced file) n le = elim (file == g) as (λ v. end_of (if v then Quiet else Synced file) ≤ n) [ true ↦ omega arith | false ↦ le ]
+
 module _ (es es' : List Entry) (g n : ℕ) (each : (k : ℕ) → get_or es' k Quiet ≡ without g (get_or es k Quiet)) where
   pub used_forgotten : ((k : ℕ) → used_by (get_or es k Quiet) ≤ n) → (k : ℕ) → used_by (get_or es' k Quiet) ≤ n
   used_forgotten old k = subst (λ (e : Entry). used_by e ≤ n) (sym (each k)) (used_without g (get_or es k Quiet) n (old k))
 
   pub reach_forgotten : ((k : ℕ) → reach_of (get_or es k Quiet) ≤ n) → (k : ℕ) → reach_of (get_or es' k Quiet) ≤ n
   reach_forgotten old k = subst (λ (e : Entry). reach_of e ≤ n) (sym (each k)) (reach_without g (get_or es k Quiet) n (old k))
+
+  pub end_forgotten : ((k : ℕ) → end_of (get_or es k Quiet) ≤ n) → (k : ℕ) → end_of (get_or es' k Quiet) ≤ n
+  end_forgotten old k = subst (λ (e : Entry). end_of e ≤ n) (sym (each k)) (end_without g (get_or es k Quiet) n (old k))
 
 -- a file's bytes put in place from the start on
 pub state_placed : (start start' : List Held) (es es' : List Entry) (w b : List ℕ) (g : ℕ) (h : Held)

@@ -63,7 +63,7 @@ put_at-behind at b c i le fits =
     ∙ get_or-drop (at + length b) c (i - (at + length b)) 0
     ∙ ap (λ k. get_or c k 0) e
 
-cases_in : (at n i : ℕ) → ((at ≤ i) × (i < at + n)) ⊎ ((i < at) ⊎ (at + n ≤ i))
+pub cases_in : (at n i : ℕ) → ((at ≤ i) × (i < at + n)) ⊎ ((i < at) ⊎ (at + n ≤ i))
 cases_in at n i = grind arith
 
 -- what a write leaves of a file that a crash cuts short

@@ -10,6 +10,7 @@ pub mod MemoryDisk
 pub mod MemoryHost
 pub mod MemoryLaws
 pub mod MemoryShelf
+pub mod Picks
 pub mod Slots
 pub mod Tallies
 pub mod TraceWords

@@ -1,8 +1,9 @@
 -- The meanings of a disk in memory.
-use Rattle.std.specs.Prelude.{ℕ, ◌≤◌, ◌<◌, length}
+use Rattle.std.specs.Prelude.{ℕ, Bool, ◌≤◌, ◌<◌, ◌-◌, length}
 use Rattle.samza_model.specs.Files.{Image}
-use Rattle.disk_model.specs.FileStates.{IsImage}
+use Rattle.disk_model.specs.FileStates.{FileState, IsImage}
 use Rattle.disk_model.specs.Handles.{SameDisk}
+use Rattle.disk_model.specs.Tallies.{fails_at}
 use Rattle.disk_model.specs.TraceWords.{bytes_of, now_of, then_of}
 use Rattle.disk_model.specs.declared.memory_disk.MemDisk.{MemDisk}
 use Rattle.disk_model.specs.declared.names.DiskName.{DiskName}
@@ -25,6 +26,24 @@ mem_calls d = d.tally.calls
 
 abbrev pub mem_faults : MemDisk → ℕ
 mem_faults d = d.tally.faults
+
+-- the number of files that there are, the greatest size of one, and the greatest number of calls
+abbrev pub mem_size : MemDisk → ℕ
+mem_size d = length d.trace.files.items
+
+abbrev pub mem_room : MemDisk → ℕ
+mem_room d = d.trace.room
+
+abbrev pub mem_limit : MemDisk → ℕ
+mem_limit d = d.trace.limit
+
+-- a call with this number is told to fail
+abbrev pub mem_fails : MemDisk → ℕ → Bool
+mem_fails d number = fails_at d.tally.fail_at.items d.tally.stop_after (number - d.tally.from)
+
+-- each file since its last sync
+abbrev pub mem_states : MemDisk → ℕ → FileState
+mem_states d = now_of d.trace
 
 -- one more than the greatest number of a file that was written or put
 abbrev pub mem_file_count : MemDisk → ℕ

@@ -45,3 +45,10 @@ without f Quiet = Quiet
 without f (Wrote file at from len) = if file == f then Quiet else Wrote file at from len
 without f (Shortened file size) = if file == f then Quiet else Shortened file size
 without f (Synced file) = if file == f then Quiet else Synced file
+
+-- one more than the number of the file that a call wrote
+abbrev pub end_of : Entry → ℕ
+end_of Quiet = 0
+end_of (Wrote file at from len) = file + 1
+end_of (Shortened file size) = 0
+end_of (Synced file) = 0

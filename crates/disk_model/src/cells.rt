@@ -1,6 +1,6 @@
 // The bytes of one file in memory, with room that was taken when they were made.
 ghost use Rattle.std.specs.Prelude.{◌≡◌, ◌+◌, ◌-◌, ◌<◌, ◌≤◌, ◌⊎◌, ◌^◌, ℕ, IfOk, [], ◌++◌, length, take, replicate, max, get_or, vec_capacity};
-ghost use Rattle.disk_model.specs.Cells.{put_at};
+ghost use Rattle.disk_model.specs.Cells.{put_at, padded, filled, put_padded};
 
 use samza_model::NoMemory;
 use std::alloc::Global;
@@ -56,6 +56,40 @@ impl Cells {
         ensures { self.new ≡ record { bytes = take size self.old.bytes; room = self.old.room } }
     {
         self.bytes.truncate(size);
+    }
+
+    /// Writes this value over so many bytes from a place on, and behind what is there.
+    pub(crate) fn fill(&mut self, from: usize, count: usize, value: u8)
+        requires { from + count ≤ self.old.room }
+        ensures { self.new ≡ record { bytes = filled from count value self.old.bytes; room = self.old.room } }
+    {
+        let _ = &self.room;
+        pad(&mut self.bytes, from + count, value);
+        self.bytes[from..from + count].fill(value);
+    }
+
+    /// Writes over what is there, and behind it, with zeros in a gap.
+    pub(crate) fn put_padded(&mut self, at: usize, bytes: &[u8])
+        requires { at + length bytes.now ≤ self.old.room }
+        ensures { self.new ≡ record { bytes = put_padded at bytes.now self.old.bytes; room = self.old.room } }
+    {
+        if bytes.is_empty() {
+            return;
+        }
+        pad(&mut self.bytes, at, 0);
+        put_into(&mut self.bytes, at, bytes);
+    }
+}
+
+/// Adds a value behind the bytes up to a size, where the capacity suffices.
+fn pad(cells: &mut Vec<u8>, size: usize, value: u8)
+    requires { size ≤ vec_capacity cells.old }
+    ensures items { cells.new.items ≡ padded size value cells.old.items }
+    ensures capacity { vec_capacity cells.old ≤ vec_capacity cells.new }
+{
+    let more = size.saturating_sub(cells.len());
+    for _i in 0..more {
+        let _ = cells.push(value);
     }
 }
 

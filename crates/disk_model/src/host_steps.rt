@@ -4,7 +4,7 @@ ghost use Rattle.disk_model.specs.Images.{Only, SameElsewhere};
 ghost use Rattle.disk_model.specs.MemoryDisk.{mem_name, mem_reads, mem_images, mem_file_count, mem_faults, IsSameDisk};
 ghost use Rattle.disk_model.specs.MemoryShelf.{shelf_name, shelf_file, shelf_bytes, shelf_faults};
 ghost use Rattle.disk_model.specs.Slots.{slot_at, held_in, reads_in, number_in, text_in, ChangesSlot};
-ghost use Rattle.disk_model.specs.HostSteps.{IsPlaced, ChangesHeld};
+ghost use Rattle.disk_model.specs.HostSteps.{IsPlaced, IsCrashed, ChangesHeld};
 ghost use Rattle.disk_model.specs.declared.memory_disk.MemDisk.{MemDisk};
 
 use crate::arms::Arm;
@@ -12,7 +12,7 @@ use crate::memory_shelf::MemShelf;
 use crate::names_held::{held_of, place_of};
 use crate::slots::Slot;
 use crate::tallies::Tally;
-use crate::{DiskName, MemDisk};
+use crate::{DiskName, MemDisk, Pick};
 use samza_model::{Bin, NoMemory, Plain};
 use std::alloc::Global;
 
@@ -111,4 +111,19 @@ pub(crate) fn place_held(
     }
     slot.held = Some(disk);
     if fits { Ok(()) } else { Err(NoMemory) }
+}
+
+/// Puts what a crash leaves of the disk under a name in its place, if it is there and not out.
+pub(crate) fn crash_held(slots: &mut [Slot<MemDisk>], name: &DiskName, pick: Pick)
+    ensures crashed { (d : MemDisk) → held_in (slot_at slots.old name.now) ≡ Some d → ChangesHeld name.now (IsCrashed pick) slots.old slots.new }
+    ensures absent { held_in (slot_at slots.old name.now) ≡ None → slots.new ≡ slots.old }
+{
+    let Some(place) = place_of(slots, name) else {
+        return;
+    };
+    let slot = &mut slots[place];
+    let Some(disk) = slot.held.take() else {
+        return;
+    };
+    slot.held = Some(disk.crash(pick));
 }

@@ -4,6 +4,7 @@
 
 mod arms;
 mod cells;
+mod crashes;
 mod disks;
 mod host_steps;
 mod hosts;
@@ -14,6 +15,7 @@ mod memory_steps;
 mod names;
 pub mod names_held;
 mod new_disks;
+mod picks;
 mod shelves;
 pub mod slots;
 mod tallies;
@@ -25,6 +27,7 @@ pub use memory_disk::MemDisk;
 pub use memory_host::MemHost;
 pub use memory_shelf::MemShelf;
 pub use names::{DiskFault, DiskName};
+pub use picks::Pick;
 pub use shelves::Shelf;
 
 #[cfg(test)]

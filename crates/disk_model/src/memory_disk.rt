@@ -5,7 +5,7 @@ ghost use Rattle.disk_model.specs.TraceWords.{count_of};
 use crate::memory_steps::{read_from, sync_entry};
 use crate::tallies::Tally;
 use crate::traces::{Entry, Trace};
-use crate::{Disk, DiskFault, DiskName};
+use crate::{Disk, DiskFault, DiskName, Pick};
 use samza_model::NoMemory;
 use std::alloc::Global;
 
@@ -20,10 +20,12 @@ pub struct MemDisk {
 }
 
 impl MemDisk {
-    ghost use Rattle.std.specs.Prelude.{◌≡◌, ◌↔◌, ◌+◌, ℕ, [], IfOk, IsTrue, length, max};
+    ghost use Rattle.std.specs.Prelude.{◌≡◌, ◌↔◌, ◌+◌, ◌-◌, ℕ, [], IfOk, IsTrue, false, length, max};
     ghost use Rattle.samza_model.specs.Files.{Image};
     ghost use Rattle.disk_model.specs.Images.{Only, SameElsewhere};
-    ghost use Rattle.disk_model.specs.MemoryDisk.{mem_file_count, CanPlace, IsSameDisk};
+    ghost use Rattle.disk_model.specs.MemoryDisk.{mem_file_count, mem_size, mem_room, mem_limit, mem_fails, mem_states, CanPlace, IsSameDisk};
+    ghost use Rattle.disk_model.specs.Picks.{IsPicked};
+    ghost use Rattle.disk_model.specs.Tallies.{fails_at};
 
     /// A disk of empty files.
     ///
@@ -75,10 +77,33 @@ impl MemDisk {
         ensures name { ⟦<MemDisk as Disk>⟧.name self.new ≡ ⟦<MemDisk as Disk>⟧.name self.old }
         ensures files { mem_file_count self.new ≡ mem_file_count self.old }
         ensures faults { ⟦<MemDisk as Disk>⟧.fault_count self.new ≡ ⟦<MemDisk as Disk>⟧.fault_count self.old }
+        ensures fails { (number : ℕ) → mem_fails self.new number ≡ fails_at fail_at.items stop_after (number - ⟦<MemDisk as Disk>⟧.call_number self.old) }
     {
         self.tally.from = self.tally.calls;
         self.tally.fail_at = fail_at;
         self.tally.stop_after = stop_after;
+    }
+
+    /// The disk that a crash now leaves, whose one image is what it reads. Its calls and faults are counted from 0, no call
+    /// is told to fail, and the record is empty. It takes no memory.
+    pub fn crash(self, pick: Pick) -> MemDisk
+        ensures image { ⟦<MemDisk as Disk>⟧.images self (⟦<MemDisk as Disk>⟧.reads result) }
+        ensures one_image { (f : ℕ) → Only f (⟦<MemDisk as Disk>⟧.reads result) (⟦<MemDisk as Disk>⟧.images result) }
+        ensures picked { (f : ℕ) → IsPicked pick (mem_states self f) (⟦<MemDisk as Disk>⟧.reads result f) }
+        ensures newest { pick ≡ Pick.New → (f : ℕ) → ⟦<MemDisk as Disk>⟧.reads result f ≡ ⟦<MemDisk as Disk>⟧.reads self f }
+        ensures name { ⟦<MemDisk as Disk>⟧.name result ≡ ⟦<MemDisk as Disk>⟧.name self }
+        ensures calls { ⟦<MemDisk as Disk>⟧.call_number result ≡ 0 }
+        ensures faults { ⟦<MemDisk as Disk>⟧.fault_count result ≡ 0 }
+        ensures none_fails { (number : ℕ) → mem_fails result number ≡ false }
+        ensures files { mem_file_count result ≡ mem_file_count self }
+        ensures size { mem_size result ≡ mem_size self }
+        ensures room { mem_room result ≡ mem_room self }
+        ensures limit { mem_limit result ≡ mem_limit self }
+    {
+        let mut disk = self;
+        disk.trace.crash(pick);
+        disk.tally.restart();
+        disk
     }
 
     /// Counts the faults from 0 on.

@@ -5,15 +5,17 @@ ghost use Rattle.disk_model.specs.Slots.{slot_at, held_in};
 ghost use Rattle.disk_model.specs.declared.memory_disk.MemDisk.{MemDisk};
 ghost use Rattle.disk_model.specs.declared.names.DiskName.{DiskName};
 
-use crate::arms::{Arm, arm_of, put_arm};
-use crate::host_steps::{as_handle, copy_text, count_of_files, new_shelf, place_held, stream_name};
+use crate::arms::{Arm, arm_of, put_arm, remove_arm};
+use crate::host_steps::{
+    as_handle, copy_text, count_of_files, crash_held, new_shelf, place_held, stream_name,
+};
 use crate::memory_disk::MemDisk;
 use crate::memory_shelf::MemShelf;
 use crate::names_held::{has_slot, held_of, one_in, one_out, put_held, take_held};
 use crate::new_disks::new_disk;
 use crate::slots::Slot;
 use crate::tallies::Tally;
-use crate::{Disk, DiskName, Host, HostFault, Shelf};
+use crate::{Disk, DiskName, Host, HostFault, Pick, Shelf};
 use samza_model::{Bin, NoMemory, Plain};
 use std::alloc::Global;
 
@@ -31,10 +33,12 @@ pub struct MemHost {
 }
 
 impl MemHost {
-    ghost use Rattle.std.specs.Prelude.{◌≡◌, ◌≢◌, ◌+◌, ℕ, [], None, IfOk, OnOk, OnErr, max, length, MatchOption, option_map};
+    ghost use Rattle.std.specs.Prelude.{◌≡◌, ◌≢◌, ◌+◌, ℕ, [], None, IfOk, IfSome, OnOk, OnErr, max, length, MatchOption, option_map};
     ghost use Rattle.disk_model.specs.Handles.{AsMany, NoneOut};
     ghost use Rattle.disk_model.specs.Images.{Only, SameElsewhere};
     ghost use Rattle.disk_model.specs.MemoryHost.{disk_of, host_text, host_reads, host_images, host_images_since, host_calls, host_file_count, host_disks_out, host_shelves_out, host_faults, IsSameHeld};
+    ghost use Rattle.disk_model.specs.MemoryDisk.{mem_states};
+    ghost use Rattle.disk_model.specs.Picks.{IsPicked};
     ghost use Rattle.disk_model.specs.Slots.{slot_at, text_in};
     ghost use Rattle.disk_model.specs.declared.names.DiskName.{DiskName};
 
@@ -157,6 +161,27 @@ impl MemHost {
                 stop_after,
             },
         )
+    }
+
+    /// Puts what a crash now leaves of the disk of a name in its place, and forgets which of its calls were to fail. Where
+    /// there is no such disk, no disk changes. It takes no memory.
+    pub fn crash(&mut self, name: &DiskName, pick: Pick)
+        requires { host_disks_out self.old name.now ≡ 0 }
+        ensures image { host_images self.old name.now (host_reads self.new name.now) }
+        ensures one_image { (f : ℕ) → Only f (host_reads self.new name.now) (host_images self.new name.now) }
+        ensures picked { IfSome (disk_of self.old name.now) (λ d. (f : ℕ) → IsPicked pick (mem_states d f) (host_reads self.new name.now f)) }
+        ensures newest { pick ≡ Pick.New → (f : ℕ) → host_reads self.new name.now f ≡ host_reads self.old name.now f }
+        ensures absent { disk_of self.old name.now ≡ None → IsSameHeld self.old self.new name.now }
+        ensures calls { host_calls self.new name.now ≡ 0 }
+        ensures file_count { host_file_count self.new name.now ≡ host_file_count self.old name.now }
+        ensures disks { (n : DiskName) → n ≢ name.now → IsSameHeld self.old self.new n }
+        ensures disks_out { AsMany (host_disks_out self.old) (host_disks_out self.new) }
+        ensures shelves_out { AsMany (host_shelves_out self.old) (host_shelves_out self.new) }
+        ensures text { host_text self.new ≡ host_text self.old }
+        ensures faults { host_faults self.new ≡ host_faults self.old }
+    {
+        remove_arm(&mut self.arms, name);
+        crash_held(self.slots.as_mut_slice(), name, pick);
     }
 }
 

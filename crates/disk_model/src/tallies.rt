@@ -1,5 +1,5 @@
 // Counts of calls and of faults, and which calls are to fail.
-ghost use Rattle.std.specs.Prelude.{◌≡◌, ◌-◌, Bool, true, false, if◌then◌else◌, ◌||◌, not};
+ghost use Rattle.std.specs.Prelude.{◌≡◌, ◌-◌, ℕ, Bool, true, false, if◌then◌else◌, ◌||◌, not};
 ghost use Rattle.samza_model.specs.Counters.{next_number, added};
 ghost use Rattle.disk_model.specs.Tallies.{fails_at};
 
@@ -52,6 +52,19 @@ impl Tally {
             self.faults = self.faults.saturating_add(1);
         }
         fails
+    }
+
+    /// Counts from 0 on, with no call that is to fail.
+    pub(crate) fn restart(&mut self)
+        ensures calls { self.new.calls ≡ 0 }
+        ensures faults { self.new.faults ≡ 0 }
+        ensures none { (number : ℕ) → fails_at self.new.fail_at.items self.new.stop_after number ≡ false }
+    {
+        self.calls = 0;
+        self.faults = 0;
+        self.from = 0;
+        self.fail_at.clear();
+        self.stop_after = None;
     }
 
     /// Adds another's faults.

@@ -108,3 +108,73 @@ fn a_host_shows_the_files_that_were_put(rt: HostRuntime) -> Result<(), Fail> {
     assert_eq!(rt; host.faults(), 2);
     Ok(())
 }
+
+/// A disk with "abcd" synced and "wx" written over it in file 0, and "gh" and then "ij" written in file 1, of whose next
+/// calls the first is to fail.
+fn torn_disk(alloc: Global) -> Result<MemDisk, Fail> {
+    let mut disk = MemDisk::new(alloc, DiskName::Task(0), 2, 16, 16, Vec::new(alloc), None)?;
+    disk.write_at(0, 0, b"abcd")?;
+    disk.sync(0)?;
+    disk.write_at(0, 0, b"wx")?;
+    disk.write_at(1, 0, b"gh")?;
+    disk.write_at(1, 2, b"ij")?;
+    disk.arm(vec![in alloc; 0]?, None);
+    Ok(disk)
+}
+
+#[test]
+fn the_old_image_has_the_synced_bytes(rt: HostRuntime) -> Result<(), Fail> {
+    let mut disk = torn_disk(rt.alloc())?.crash(Pick::Old);
+    assert_eq!(rt; disk.bytes(0), b"abcd".as_slice());
+    assert_eq!(rt; disk.bytes(1).len(), 0);
+    assert_eq!(rt; disk.calls(), 0);
+    assert!(rt; disk.sync(0).is_ok());
+    Ok(())
+}
+
+#[test]
+fn the_new_image_has_the_written_bytes(rt: HostRuntime) -> Result<(), Fail> {
+    let disk = torn_disk(rt.alloc())?.crash(Pick::New);
+    assert_eq!(rt; disk.bytes(0), b"wxcd".as_slice());
+    assert_eq!(rt; disk.bytes(1), b"ghij".as_slice());
+    Ok(())
+}
+
+#[test]
+fn the_filled_image_has_the_value_where_bytes_are_free(rt: HostRuntime) -> Result<(), Fail> {
+    let disk = torn_disk(rt.alloc())?.crash(Pick::Fill(0x21));
+    assert_eq!(rt; disk.bytes(0), b"!!cd".as_slice());
+    assert_eq!(rt; disk.bytes(1), b"!!!!".as_slice());
+    Ok(())
+}
+
+#[test]
+fn the_cut_image_has_the_front_of_each_write(rt: HostRuntime) -> Result<(), Fail> {
+    let disk = torn_disk(rt.alloc())?.crash(Pick::Cut(1));
+    assert_eq!(rt; disk.bytes(0), b"wbcd".as_slice());
+    assert_eq!(rt; disk.bytes(1), b"g\0i".as_slice());
+    Ok(())
+}
+
+#[test]
+fn a_host_has_the_crash_image_in_place_of_the_disk(rt: HostRuntime) -> Result<(), Fail> {
+    let alloc = rt.alloc();
+    let mut host = MemHost::new(alloc, None, 64, 16)?;
+    let task = DiskName::Task(0);
+    let other = DiskName::Task(1);
+    host.put_file(&task, 0, b"abcd")?;
+    host.put_file(&other, 0, b"abcd")?;
+    host.arm(&task, Vec::new(alloc), Some(1))?;
+    let mut disk = host.lend(alloc, &task)?;
+    disk.write_at(0, 0, b"wxyz")?;
+    host.take_disk(&task, disk);
+    host.crash(&task, Pick::Cut(2));
+    assert_eq!(rt; host.file(&task, 0), b"wxcd".as_slice());
+    assert_eq!(rt; host.file(&other, 0), b"abcd".as_slice());
+    let mut disk = host.lend(alloc, &task)?;
+    assert_eq!(rt; disk.calls(), 0);
+    assert!(rt; disk.sync(0).is_ok());
+    assert!(rt; disk.sync(0).is_ok());
+    host.take_disk(&task, disk);
+    Ok(())
+}

@@ -2,11 +2,13 @@
 ghost use Rattle.std.specs.Prelude.{◌≡◌, ◌+◌, ◌-◌, ◌<◌, ◌≤◌, ◌^◌, ℕ, List, IfOk, [], ◌∷◌, ◌++◌, length, take, drop, get_or, vec_capacity, replicate, set};
 ghost use Rattle.disk_model.specs.Cells.{put_at};
 ghost use Rattle.disk_model.specs.Held.{no_bytes};
-ghost use Rattle.disk_model.specs.Traces.{bytes_at, state_of, used_by, reach_of, without};
+ghost use Rattle.disk_model.specs.Traces.{bytes_at, state_of, used_by, reach_of, end_of, without};
 ghost use Rattle.disk_model.specs.declared.traces.Entry.{Entry};
 ghost use Rattle.disk_model.specs.declared.traces.Entry.TheVariants.{Quiet};
 
+use crate::Pick;
 use crate::cells::Cells;
+use crate::crashes::{copy_all, redo_all};
 use samza_model::NoMemory;
 use std::alloc::Global;
 
@@ -50,11 +52,15 @@ pub(crate) struct Trace {
     ghost noted_room: { limit ≤ vec_capacity noted },
     ghost written_room: { room ≤ vec_capacity written },
     ghost unwritten: { (f : ℕ) → there ≤ f → bytes_at files.items f ≡ [] },
+    ghost unstarted: { (f : ℕ) → there ≤ f → bytes_at start.items f ≡ [] },
+    ghost known: { (k : ℕ) → end_of (get_or noted.items k Quiet) ≤ there },
+    ghost few: { there ≤ length files.items },
 }
 
 impl Trace {
     ghost use Rattle.std.specs.Prelude.{◌≡◌, ◌+◌, ◌-◌, ◌<◌, ◌≤◌, ◌^◌, ℕ, List, IfOk, IsTrue, ◌↔◌, [], ◌∷◌, ◌++◌, length, take, drop, get_or, min, max, true, false};
     ghost use Rattle.disk_model.specs.FileStates.{after, at_rest, with_written, with_cut};
+    ghost use Rattle.disk_model.specs.Picks.{IsCrashOf};
     ghost use Rattle.disk_model.specs.Traces.{is_still};
     ghost use Rattle.disk_model.specs.TraceWords.{count_of, now_of, then_of, bytes_of, AtFile};
 
@@ -201,6 +207,29 @@ impl Trace {
         place_in(&mut self.files, file, bytes);
         self.there = self.there.max(file + 1);
     }
+
+    /// Leaves what a crash leaves, as if it had been there from the start, and drops the record.
+    pub(crate) fn crash(&mut self, pick: Pick)
+        ensures torn { (f : ℕ) → IsCrashOf pick (now_of self.old f) (bytes_of self.new f) }
+        ensures rest { (f : ℕ) → now_of self.new f ≡ at_rest (bytes_of self.new f) }
+        ensures count { count_of self.new ≡ 0 }
+        ensures limit { self.new.limit ≡ self.old.limit }
+        ensures room { self.new.room ≡ self.old.room }
+        ensures files { length self.new.files.items ≡ length self.old.files.items }
+        ensures there { self.new.there ≡ self.old.there }
+    {
+        copy_all(&mut self.files, self.start.as_slice());
+        redo_all(
+            &mut self.start,
+            &mut self.files,
+            self.noted.as_slice(),
+            self.written.as_slice(),
+            pick,
+        );
+        copy_all(&mut self.files, self.start.as_slice());
+        self.noted.clear();
+        self.written.clear();
+    }
 }
 
 /// Takes what was noted of a file for nothing.
@@ -237,7 +266,7 @@ fn without_file(entry: Entry, file: usize) -> Entry
 }
 
 /// Puts bytes in the place of one of the files.
-fn place_in(files: &mut Vec<Cells>, file: usize, bytes: &[u8])
+pub(crate) fn place_in(files: &mut Vec<Cells>, file: usize, bytes: &[u8])
     requires there { file < length files.old.items }
     requires fits { length bytes.now ≤ (get_or files.old.items file no_bytes).room }
     ensures { files.new.items ≡ set files.old.items file (record { bytes = bytes.now; room = (get_or files.old.items file no_bytes).room }) }
@@ -277,7 +306,7 @@ fn add_bytes(written: &mut Vec<u8>, bytes: &[u8])
 }
 
 /// Writes bytes into one of the files.
-fn put_in(files: &mut Vec<Cells>, file: usize, at: usize, bytes: &[u8])
+pub(crate) fn put_in(files: &mut Vec<Cells>, file: usize, at: usize, bytes: &[u8])
     requires there { file < length files.old.items }
     requires reach { at + length bytes.now ≤ (get_or files.old.items file no_bytes).room }
     ensures { files.new.items ≡ set files.old.items file (record { bytes = put_at at bytes.now (bytes_at files.old.items file); room = (get_or files.old.items file no_bytes).room }) }
@@ -287,7 +316,7 @@ fn put_in(files: &mut Vec<Cells>, file: usize, at: usize, bytes: &[u8])
 }
 
 /// Cuts one of the files, if it is there.
-fn cut_in(files: &mut Vec<Cells>, file: usize, size: usize)
+pub(crate) fn cut_in(files: &mut Vec<Cells>, file: usize, size: usize)
     ensures { files.new.items ≡ set files.old.items file (record { bytes = take size (bytes_at files.old.items file); room = (get_or files.old.items file no_bytes).room }) }
 {
     if file < files.len() {

@@ -7,6 +7,7 @@
 mod acts;
 mod bytes;
 mod checkpoints;
+mod classes;
 mod jobs;
 mod lists;
 mod memory;
@@ -18,6 +19,7 @@ mod values;
 pub use acts::{Act, Answer, Scope};
 pub use bytes::Bin;
 pub use checkpoints::{Checkpoint, InputMark, StoreMark};
+pub use classes::Class;
 pub use jobs::Job;
 pub use lists::Items;
 pub use memory::NoMemory;

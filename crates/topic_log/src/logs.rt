@@ -1,10 +1,10 @@
 // A log of one file.
-ghost use Rattle.std.specs.Prelude.{◌≡◌, ◌≢◌, ◌+◌, ◌^◌, ◌<◌, ◌≤◌, ◌⊎◌, ◌↔◌, ◌++◌, ◌∷◌, [], ℕ, true, false, List, length, IsTrue, IfOk, IfErr, IfSome, OnOk, OnErr};
+ghost use Rattle.std.specs.Prelude.{◌≡◌, ◌≢◌, ◌+◌, ◌^◌, ◌<◌, ◌≤◌, ◌⊎◌, ◌↔◌, ◌++◌, ◌∷◌, [], ℕ, true, false, List, length, IsTrue, IfOk, IfErr, IfSome, MatchOption, OnOk, OnErr};
 ghost use Rattle.std.specs.List.{AllByRecursion};
 ghost use Rattle.samza_model.specs.declared.messages.Record.{Record};
 ghost use Rattle.samza_model.specs.Counters.{Rose};
 ghost use Rattle.samza_model.specs.Limits.{IsWithinLimits};
-ghost use Rattle.samza_model.specs.Logs.{HasFrames, HasNoLog};
+ghost use Rattle.samza_model.specs.Logs.{joined, HasFrames, HasNoLog};
 ghost use Rattle.disk_model.specs.Images.{SameElsewhere, Keeps, LeavesOnly};
 ghost use Rattle.log_frame.specs.Frame.{IsFrame, AreFrames};
 ghost use Rattle.topic_log.specs.Damage.{IsDamagedAt};
@@ -74,7 +74,8 @@ impl Log {
 
     /// The number of records.
     pub fn len(&self) -> u64
-        ensures { result ≡ count_of self.now }
+        ensures count { result ≡ count_of self.now }
+        ensures small { result < 2 ^ 62 }
     {
         self.extent.count
     }
@@ -104,6 +105,18 @@ impl Log {
         ensures { (frames : List (List Record)) → HasExtent self.now frames → IsLastOf result frames }
     {
         self.extent.last
+    }
+
+    /// The number of records that the log has once these frames are appended, or `None` where its file would pass 2^40
+    /// bytes.
+    pub fn len_behind(&self, frames: &[Frame]) -> Option<u64>
+        ensures limit { MatchOption result (2 ^ 40 < size_of self.now + length (closed_frames frames.now)) (λ _. size_of self.now + length (closed_frames frames.now) ≤ 2 ^ 40) }
+        ensures count { IfSome result (λ n. (before lists : List (List Record)) → HasExtent self.now before → AreFrames frames.now lists → n ≡ length (joined (before ++ lists))) }
+    {
+        match self.extent.behind(frames) {
+            Some(extent) => Some(extent.count),
+            None => None,
+        }
     }
 
     /// Adds the records of all these frames, and answers the new number of records. An empty list makes no device call.

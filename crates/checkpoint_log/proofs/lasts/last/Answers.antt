@@ -25,7 +25,7 @@ returns-in-Ok-checkpoint_in-clause-last g c = λ told frames h.
     let next : IsNext frames p.before c.in-Ok.found = c.in-Ok.ensures.batch told frames p.before (has_place reads images c.args.log.now frames h c.in-Some.place p) in
     let some = subst (λ (o : Option (List Record × Place)). IsNext frames p.before o) c.in-Some-found.is next in
     ends_with reads images c.args.log.now frames h c.in-Some.place p c.in-Some-found.batch.0 c.in-Some-found.batch.1 c.in-Ok-checkpoint_in.k some
-    (alone_is c.as_slice.result.now c.in-Some-found.batch.0 c.len.result (count_of c.args.log.now) c.in-Ok-checkpoint_in.k (cc) (c.len.ensures ∙ ap count_of c.in-Ok.ensures.ok.1) c.in-Ok-checkpoint_in.ensures.found)
+    (alone_is c.as_slice.result.now c.in-Some-found.batch.0 c.len.result (count_of c.args.log.now) c.in-Ok-checkpoint_in.k (cc) (c.len.ensures.count ∙ ap count_of c.in-Ok.ensures.ok.1) c.in-Ok-checkpoint_in.ensures.found)
 
 pub returns-in-Err-Bad-clause-damaged : goal.returns-in-Err-Bad-clause-damaged
 returns-in-Err-Bad-clause-damaged g c = λ at is told frames h.
@@ -39,7 +39,7 @@ returns-in-Err-Bad-clause-damaged g c = λ at is told frames h.
     let e = c.saturating_add-at.ensures in
     bad_end reads images c.args.log.now frames h c.in-Some.place p c.in-Some-found.batch.0 c.in-Some-found.batch.1 at some
     (omega (arith, e, small, at_is))
-    (λ k a. c.in-Err-Bad.ensures.bad c.in-Err-Bad.field-0-is k (alone_is c.in-Some-found.batch.0 c.as_slice.result.now (count_of c.args.log.now) c.len.result k (cc) (sym (c.len.ensures ∙ ap count_of c.in-Ok.ensures.ok.1)) a))
+    (λ k a. c.in-Err-Bad.ensures.bad c.in-Err-Bad.field-0-is k (alone_is c.in-Some-found.batch.0 c.as_slice.result.now (count_of c.args.log.now) c.len.result k (cc) (sym (c.len.ensures.count ∙ ap count_of c.in-Ok.ensures.ok.1)) a))
 
 pub returns-in-None-clause-rests : goal.returns-in-None-clause-rests
 returns-in-None-clause-rests g c = λ told.

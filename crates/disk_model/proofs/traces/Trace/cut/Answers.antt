@@ -3,7 +3,7 @@ use Rattle.std.proofs.lemmas.List.{get_or_past}
 use Rattle.disk_model.proofs.Replays.{bound_grown, kept_at, rooms_set, state_cut, unwritten_set}
 use Rattle.disk_model.specs.FileStates.{with_cut}
 use Rattle.disk_model.specs.Held.{Held, no_bytes}
-use Rattle.disk_model.specs.Traces.{bytes_at, reach_of, state_of, used_by}
+use Rattle.disk_model.specs.Traces.{bytes_at, end_of, reach_of, state_of, used_by}
 use Rattle.disk_model.specs.declared.traces.Entry.TheVariants.{Shortened}
 use Rattle.disk_model.proofs.traces.Trace.cut.Goals as goal
 
@@ -53,3 +53,8 @@ invariant_of-self-clause-unwritten c =
     let t = c.args.self.now in
     unwritten_set t.files.items c.cut_in.new.files.items c.args.file t.there t.there _ c.cut_in.ensures t.unwritten (omega arith)
     (λ low. ap (λ (l : List ℕ). take c.args.size l) (t.unwritten c.args.file low) ∙ nothing c.args.size)
+
+pub invariant_of-self-clause-known : goal.invariant_of-self-clause-known
+invariant_of-self-clause-known c =
+    let t = c.args.self.now in
+    bound_grown end_of t.noted.items c.add_entry.new.noted.items (Shortened c.args.file c.args.size) _ _ c.add_entry.ensures.items t.known (omega arith) (omega arith)

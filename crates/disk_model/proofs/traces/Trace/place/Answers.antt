@@ -1,8 +1,9 @@
-use Rattle.std.proofs.Common.{◌<◌, arith, length, refl}
-use Rattle.disk_model.proofs.Replays.{kept_at, reach_forgotten, rooms_set, state_placed, unwritten_set, used_forgotten}
+use Rattle.std.proofs.Common.{◌<◌, ◌≤◌, ℕ, get_or, arith, length, refl}
+use Rattle.disk_model.proofs.Replays.{end_forgotten, kept_at, reach_forgotten, rooms_set, state_placed, unwritten_set, used_forgotten}
 use Rattle.disk_model.specs.FileStates.{at_rest}
 use Rattle.disk_model.specs.TraceWords.{AtFile}
-use Rattle.disk_model.specs.Traces.{state_of}
+use Rattle.disk_model.specs.Traces.{end_of, state_of}
+use Rattle.disk_model.specs.declared.traces.Entry.TheVariants.{Quiet}
 use Rattle.disk_model.proofs.traces.Trace.place.Goals as goal
 use Rattle.disk_model.proofs.traces.Trace.place.Goals.{After-max-self}
 
@@ -46,3 +47,14 @@ invariant_of-self-clause-unwritten c =
 
 pub returns-clause-placed : goal.returns-clause-placed
 returns-clause-placed c = step_is (goal.at.returns-clause-placed c).After-max-self
+
+pub invariant_of-self-clause-known : goal.invariant_of-self-clause-known
+invariant_of-self-clause-known c =
+    let t = c.args.self.now in
+    let up : (k : ℕ) → end_of (get_or t.noted.items k Quiet) ≤ c.max-self.result = λ k. omega (arith, t.known k) in
+    end_forgotten t.noted.items c.forget_all.new.noted.items c.args.file _ c.forget_all.ensures.each up
+
+pub invariant_of-self-clause-unstarted : goal.invariant_of-self-clause-unstarted
+invariant_of-self-clause-unstarted c =
+    let t = c.args.self.now in
+    unwritten_set t.start.items c.place_in.new.files.items c.args.file t.there c.max-self.result _ c.place_in.ensures t.unstarted (omega arith) (λ low. absurd (omega arith))

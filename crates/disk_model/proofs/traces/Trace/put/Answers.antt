@@ -2,7 +2,7 @@ use Rattle.std.proofs.Common.{◌∙◌, ℕ, ◌≡◌, ap, arith, List, length
 use Rattle.disk_model.proofs.Replays.{bound_grown, kept_at, rooms_set, state_wrote, unwritten_set, wrote_past}
 use Rattle.disk_model.specs.Cells.{put_at}
 use Rattle.disk_model.specs.FileStates.{with_written}
-use Rattle.disk_model.specs.Traces.{reach_of, state_of, used_by}
+use Rattle.disk_model.specs.Traces.{end_of, reach_of, state_of, used_by}
 use Rattle.disk_model.specs.declared.traces.Entry.TheVariants.{Wrote}
 use Rattle.disk_model.proofs.traces.Trace.put.Goals as goal
 use Rattle.disk_model.proofs.traces.Trace.put.Goals.{After-put_in}
@@ -55,3 +55,8 @@ pub invariant_of-self-clause-unwritten : goal.invariant_of-self-clause-unwritten
 invariant_of-self-clause-unwritten c =
     let t = c.args.self.now in
     unwritten_set t.files.items c.put_in.new.files.items c.args.file t.there c.max-self.result _ c.put_in.ensures t.unwritten (omega arith) (λ low. absurd (omega arith))
+
+pub invariant_of-self-clause-known : goal.invariant_of-self-clause-known
+invariant_of-self-clause-known c =
+    let t = c.args.self.now in
+    bound_grown end_of t.noted.items c.add_entry.new.noted.items _ _ _ c.add_entry.ensures.items t.known (omega arith) (omega arith)
