@@ -31,7 +31,7 @@ module _ {D : Type 0} (tells : Type 0) (reads : D → Image) (images : D → Ima
   was d = sym (h.same i d (omega arith)) ∙ here d
 
   -- the log at i is open as it was
-  open_at : tells → (first : ℕ) → AreOpen (reads old) (images old) first logs₀ → (d : Log) (before : List (List Record)) → IsOpenAt (reads old) (images old) (first + i) (get_or logs₀ i d) before
+  pub open_at : tells → (first : ℕ) → AreOpen (reads old) (images old) first logs₀ → (d : Log) (before : List (List Record)) → IsOpenAt (reads old) (images old) (first + i) (get_or logs₀ i d) before
       → IsOpenAt (reads mid) (images mid) (first + i) log before
   open_at told first are d before o =
       subst (λ (l : Log). IsOpenAt (reads mid) (images mid) (first + i) l before) (was d)

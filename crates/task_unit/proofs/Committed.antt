@@ -1,21 +1,21 @@
 -- What the logs hold once a commit was written to them.
-use Rattle.std.proofs.Common.{ℕ, ◌≡◌, ◌<◌, ◌+◌, List, [], ◌∷◌, ◌++◌, length, get_or, Option, Some, None, sym, ◌∙◌, ap, subst, refl, arith, inr}
-use Rattle.std.proofs.lemmas.List.{length-append, length-map, length_push, take_all}
+use Rattle.std.proofs.Common.{ℕ, ◌≡◌, ◌<◌, ◌+◌, List, [], ◌∷◌, ◌++◌, length, get_or, Option, Some, None, sym, ◌∙◌, ap, subst, refl, inr}
+use Rattle.std.proofs.lemmas.List.{length_push}
 use Rattle.std.specs.FinMap as fin
 use Rattle.samza_model.specs.declared.messages.Record.{Record}
 use Rattle.samza_model.specs.declared.checkpoints.Checkpoint.{Checkpoint}
 use Rattle.samza_model.specs.declared.setups.Setup.{Setup}
 use Rattle.samza_model.specs.Checkpoint.{Spells}
 use Rattle.samza_model.specs.Content.{Content, foldrec, store_at, nothing_stored}
-use Rattle.samza_model.specs.Files.{Image, checkpoint_file, changelog_file, output_file}
+use Rattle.samza_model.specs.Files.{Image, changelog_file, output_file}
 use Rattle.samza_model.specs.Logs.{joined, HasFrames, HasLog, ReadsAs}
-use Rattle.samza_model.specs.Restored.{HasMark, IsNamed, Restores, id_of, count_at}
-use Rattle.kv_store.specs.Tracked.{Tracked}
+use Rattle.samza_model.specs.Restored.{HasMark, IsNamed, id_of, count_at}
 use Rattle.kv_store.proofs.Updates.{replayed-append}
 use Rattle.log_frame.specs.Frame.{IsFrame}
 use Rattle.topic_log.specs.declared.logs.Log.{Log}
+use Rattle.topic_log.specs.Opened.{count_of}
 use Rattle.topic_log.proofs.Logged.{open_reads}
-use Rattle.topic_log.proofs.Spelling.{joined-append, log_unique}
+use Rattle.topic_log.proofs.Spelling.{joined-append}
 use Rattle.task_unit.specs.declared.writing.Logs.{Logs}
 use Rattle.task_unit.specs.declared.writing.Plan.{Plan}
 use Rattle.task_unit.specs.Acting.{IsSized}
@@ -23,8 +23,8 @@ use Rattle.task_unit.specs.Appending.{AreOpen}
 use Rattle.task_unit.specs.Held.{Held, tracked_at, contents_of}
 use Rattle.task_unit.specs.Planned.{PlansStores, PlansSends}
 use Rattle.task_unit.specs.Standing.{IsOpenAt}
-use Rattle.task_unit.specs.Units.{MarkStands, OnDisk, SendsFollow}
-use Rattle.task_unit.specs.Written.{Follows, StandOpen}
+use Rattle.task_unit.specs.Units.{MarkStands, OnDisk}
+use Rattle.task_unit.specs.Written.{Follows, IsRoomFor, StandOpen}
 use Rattle.task_unit.proofs.Made.{content_at}
 
 -- the records of a log that is open are those of its file
@@ -34,7 +34,7 @@ open_frames reads images file log frames o = inr (subst (λ f. ReadsAs (reads f)
 pub open_has : (reads : Image) (images : Image → Type 0) (file : ℕ) (log : Log) (frames : List (List Record)) → IsOpenAt reads images file log frames → HasLog (reads file) (joined frames)
 open_has reads images file log frames o = record { frames = frames; has = open_frames reads images file log frames o; records_are = refl }
 
-id_was : (s : Setup) (frames : List (List Record)) (mark : Option Checkpoint) → HasMark s frames mark → id_of mark ≡ length (joined frames)
+pub id_was : (s : Setup) (frames : List (List Record)) (mark : Option Checkpoint) → HasMark s frames mark → id_of mark ≡ length (joined frames)
 id_was s frames None e = subst (λ (fs : List (List Record)). 0 ≡ length (joined fs)) (sym e) refl
 id_was s frames (Some k) h = h.0.id
 
@@ -48,10 +48,11 @@ pub record StoreMade (reads : Image) (images : Image → Type 0) (file count : �
 module _ (s : Setup) (reads reads' : Image) (images images' : Image → Type 0) (logs logs' : Logs) (plan : Plan) (mark : Option Checkpoint) (made : Checkpoint) (h : Held)
     (on : OnDisk reads images s logs mark h)
     (follows : Follows reads images reads' images' logs logs' plan)
-    (stores : PlansStores s mark h.stores plan.changes.items made.stores)
+    (room : IsRoomFor logs plan)
+    (stores : PlansStores s logs.changelogs.items h.stores plan.changes.items made.stores)
     (sends : PlansSends h.unsent plan.sends.items)
     (frame : (r : Record) × Spells made r × IsFrame plan.frame (r ∷ []))
-    (named : IsNamed s made) (id : made.id ≡ id_of mark + 1)
+    (named : IsNamed s made) (id : made.id ≡ count_of logs.marks + 1)
     (changelogs_are : length logs.changelogs.items ≡ length s.stores)
     (outputs_are : length logs.outputs.items ≡ length s.outputs)
     (outputs_stay : length logs'.outputs.items ≡ length logs.outputs.items)
@@ -59,13 +60,14 @@ module _ (s : Setup) (reads reads' : Image) (images images' : Image → Type 0) 
   store_made : (i : ℕ) (d : Log) → i < length s.stores → StoreMade reads' images' (changelog_file i) (count_at (Some made) i) (get_or logs'.changelogs.items i d) (tracked_at h.stores i).content
   store_made i d lt =
       let old = on.stores i d lt in
-      let p = stores.each i (subst (λ n. i < n) (sym sized.stores) lt) in
+      let here : i < length logs.changelogs.items = subst (λ n. i < n) (sym changelogs_are) lt in
+      let p = stores.each i d (subst (λ n. i < n) (sym sized.stores) lt) in
       let lists = p.logs.lists in
       let both : joined (old.frames ++ lists) ≡ joined old.frames ++ joined lists = joined-append old.frames lists in
       record {
         frames = old.frames ++ lists;
-        is_open = follows.changelogs i d old.frames lists (subst (λ n. i < n) (sym changelogs_are) lt) old.is_open p.logs.are;
-        count_is = p.count_is ∙ ap (λ n. n + p.more) old.count_is ∙ ap (λ n. length (joined old.frames) + n) p.logs.count_is ∙ sym (length-append (joined old.frames) (joined lists)) ∙ ap (λ (l : List Record). length l) (sym both);
+        is_open = follows.changelogs i d old.frames lists here old.is_open p.logs.are;
+        count_is = p.count_is (room.changelogs i d here) old.frames lists old.is_open.is_open.extent p.logs.are;
         content_is = ap foldrec both ∙ replayed-append nothing_stored (joined old.frames) (joined lists) ∙ p.logs.replays (foldrec (joined old.frames)) old.agrees;
       }
 
@@ -77,7 +79,7 @@ module _ (s : Setup) (reads reads' : Image) (images images' : Image → Type 0) 
       record {
         frames = old.frames ++ (r ∷ []) ∷ [];
         is_open = follows.marks old.frames r old.is_open frame.2;
-        mark_is = (record { before = old.frames; last = r; split = refl; spells = frame.1; id = id ∙ ap (λ n. n + 1) (id_was s old.frames mark old.mark_is) ∙ sym grown }, named);
+        mark_is = (record { before = old.frames; last = r; split = refl; spells = frame.1; id = id ∙ ap (λ n. n + 1) old.is_open.is_open.extent.count ∙ sym grown }, named);
       }
 
   outputs_made : AreOpen reads' images' (output_file 0) logs'.outputs.items
@@ -103,33 +105,6 @@ module _ (s : Setup) (reads reads' : Image) (images images' : Image → Type 0) 
         };
     outputs = outputs_made;
   }
-
-  pub restores_made : Restores s reads' (Some made) (contents_of h.stores)
-  restores_made = record {
-    marked = record { frames = mark_made.frames; has = open_frames reads' images' checkpoint_file logs'.marks mark_made.frames mark_made.is_open; mark_is = mark_made.mark_is };
-    as_many = length-map h.stores (λ (t : Tracked). t.content) ∙ sized.stores;
-    each_store = λ i lt.
-        let m = store_made i logs'.marks lt in
-        record {
-          changes = joined m.frames;
-          has = open_has reads' images' (changelog_file i) (get_or logs'.changelogs.items i logs'.marks) m.frames m.is_open;
-          enough = omega (arith, m.count_is);
-          content_is = content_at h.stores i (subst (λ n. i < n) (sym sized.stores) lt) ∙ sym m.content_is ∙ ap foldrec (sym (take_all (count_at (Some made) i) (joined m.frames) (omega (arith, m.count_is))));
-        };
-    each_output = λ j lt.
-        let o = outputs_made j logs'.marks (subst (λ n. j < n) (sym (outputs_stay ∙ outputs_are)) lt) in
-        (joined o.0, open_has reads' images' (output_file j) (get_or logs'.outputs.items j logs'.marks) o.0 o.1);
-  }
-
-  pub sends_made : SendsFollow reads reads' s h.unsent
-  sends_made j had lt log =
-      let here : j < length logs.outputs.items = subst (λ n. j < n) (sym outputs_are) lt in
-      let old = on.outputs j logs.marks here in
-      let p = sends.each j (subst (λ n. j < n) (sym sized.outputs) lt) in
-      let new = follows.outputs j logs.marks old.0 p.lists here old.1 p.are in
-      let was : joined old.0 ≡ had = log_unique (reads (output_file j)) (joined old.0) had (open_has reads images (output_file j) (get_or logs.outputs.items j logs.marks) old.0 old.1) log in
-      subst (λ (l : List Record). HasLog (reads' (output_file j)) l) (joined-append old.0 p.lists ∙ ap (λ (l : List Record). l ++ joined p.lists) was ∙ ap (λ (l : List Record). had ++ l) p.whole)
-      (open_has reads' images' (output_file j) (get_or logs'.outputs.items j logs.marks) (old.0 ++ p.lists) new)
 
 -- the logs of a task stand open
 pub stand_open : (s : Setup) (reads : Image) (images : Image → Type 0) (logs : Logs) (mark : Option Checkpoint) (h : Held) → OnDisk reads images s logs mark h → length logs.changelogs.items ≡ length s.stores → StandOpen reads images logs

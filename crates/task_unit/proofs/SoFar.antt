@@ -34,7 +34,7 @@ pub record OutputsSoFar {D : Type 0} (tells : Type 0) (reads : D → Image) (ima
   pub others : tells → (log : Log) (frames : List (List Record)) → file_of log < output_file 0 → IsOpen (reads old) (images old) log frames → IsOpen (reads new) (images new) log frames
 
 -- some item of a list that has one
-item : {A : Type 0} (xs : List A) → 0 < length xs → A
+pub item : {A : Type 0} (xs : List A) → 0 < length xs → A
 item [] lt = absurd (omega arith)
 item (x ∷ xs) lt = x
 

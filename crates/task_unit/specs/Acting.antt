@@ -5,7 +5,9 @@ use Rattle.samza_model.specs.Content.{sent_at}
 use Rattle.samza_model.specs.Content.{Content}
 use Rattle.samza_model.specs.declared.setups.Setup.{Setup}
 use Rattle.samza_model.specs.Runs.{End}
-use Rattle.kv_store.specs.Tracked.{with_change, AgreesOnClean}
+use Rattle.kv_store.specs.Tracked.{Keys, with_change, AgreesOnClean}
+use Rattle.samza_model.specs.declared.acts.Act.{Act}
+use Rattle.task_unit.specs.Touched.{with_act, touched}
 use Rattle.std.specs.Prelude.{Some, None}
 use Rattle.task_unit.specs.declared.acting.Course.{Course}
 use Rattle.task_unit.specs.declared.acting.Course.TheVariants.{GoesOn, Done, Failed}
@@ -32,6 +34,10 @@ with_stored h store key value = record { stores = slice_set h.stores store (with
 abbrev pub with_sent : Held → ℕ → Record → Held
 with_sent h output body = record { stores = h.stores; unsent = slice_set h.unsent output (sent_at h.unsent output ++ body ∷ []) }
 
+-- the dirty keys of the i-th store
+abbrev pub dirty_at : Held → ℕ → Keys
+dirty_at h i = (tracked_at h.stores i).dirty
+
 -- as many stores and outputs as the setup has
 pub record IsSized (s : Setup) (h : Held) : Type 0 where
   pub stores : length h.stores ≡ length s.stores
@@ -40,6 +46,14 @@ pub record IsSized (s : Setup) (h : Held) : Type 0 where
 -- a content with which a store agreed at its clean keys still does
 abbrev pub KeepsClean : Held → Held → Type 0
 KeepsClean old new = (i : ℕ) (c : Content) → AgreesOnClean (tracked_at old.stores i) c → AgreesOnClean (tracked_at new.stores i) c
+
+-- the dirty keys of each store after an act
+abbrev pub IsTouched : Held → Held → Act → Type 0
+IsTouched old new act = (i : ℕ) → dirty_at new i ≡ with_act i (dirty_at old i) act
+
+-- the dirty keys of each store after some acts
+abbrev pub AreTouched : Held → Held → List Act → Type 0
+AreTouched old new acts = (i : ℕ) → dirty_at new i ≡ touched i (dirty_at old i) acts
 
 -- how a turn ends at an act; None where it goes on
 abbrev pub end_seen : Course → Option End

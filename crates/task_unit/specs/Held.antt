@@ -1,8 +1,8 @@
 -- What a task holds in memory, and what takes back what a message did to it so far.
-use Rattle.std.specs.Prelude.{ℕ, ◌≡◌, ◌<◌, ◌-◌, List, [], ◌∷◌, length, take, map, slice_index_or, slice_set}
+use Rattle.std.specs.Prelude.{ℕ, ◌≡◌, ◌<◌, ◌-◌, All, List, [], ◌∷◌, length, take, map, slice_index_or, slice_set}
 use Rattle.samza_model.specs.declared.messages.Record.{Record}
 use Rattle.samza_model.specs.Content.{Content, State, sent_at, nothing_stored}
-use Rattle.kv_store.specs.Tracked.{Tracked, IsDirty, no_keys, undone}
+use Rattle.kv_store.specs.Tracked.{Tracked, IsDirty, no_keys, undone, unlogged_records}
 use Rattle.task_unit.specs.declared.acting.Undone.{Undone}
 use Rattle.task_unit.specs.declared.acting.Undone.TheVariants.{Changed, Sent}
 
@@ -16,6 +16,17 @@ tracked_at stores i = slice_index_or stores i (record { content = nothing_stored
 
 abbrev pub contents_of : List Tracked → List Content
 contents_of stores = map (λ (t : Tracked). t.content) stores
+
+-- per store one record for each dirty key, in the keys' order, with its value now
+abbrev pub unlogged_of : List Tracked → List (List Record)
+unlogged_of stores = map unlogged_records stores
+
+abbrev pub unlogged_at : List (List Record) → ℕ → List Record
+unlogged_at unlogged i = slice_index_or unlogged i []
+
+-- no store has a dirty key
+abbrev pub AreClean : List Tracked → Type 0
+AreClean stores = All (λ (t : Tracked). t.dirty ≡ no_keys) stores
 
 abbrev pub state_of : Held → State
 state_of h = record { stores = contents_of h.stores; sent = h.unsent }

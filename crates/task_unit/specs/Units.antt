@@ -1,5 +1,5 @@
 -- A task's unit: what it holds, what stands on its disk, and what its calls do.
-use Rattle.std.specs.Prelude.{◌⊎◌, ℕ, ◌≡◌, ◌<◌, ◌≤◌, ◌+◌, ◌-◌, Bool, false, List, [], ◌++◌, length, Option, Some, None, slice_get, slice_index_or}
+use Rattle.std.specs.Prelude.{◌⊎◌, ◌↔◌, ℕ, ◌≡◌, ◌<◌, ◌≤◌, ◌+◌, ◌-◌, Bool, false, List, [], ◌++◌, length, Option, Some, None, slice_get, slice_index_or}
 use Rattle.std.specs.List.{AllByRecursion}
 use Rattle.std.specs.FinMap as fin
 use Rattle.std.specs.Coded.{Coded, coded_list, coded_ℕ}
@@ -12,9 +12,9 @@ use Rattle.samza_model.specs.declared.setups.OffsetDefault.TheVariants.{Oldest}
 use Rattle.samza_model.specs.declared.turns.Failure.{Failure}
 use Rattle.samza_model.specs.declared.turns.Turn.TheVariants.{Call}
 use Rattle.samza_model.specs.Checkpoint.{IsWellFormed}
-use Rattle.samza_model.specs.Content.{Content, State, foldrec, sent_at}
+use Rattle.samza_model.specs.Content.{Content, State, foldrec, sent_at, store_at}
 use Rattle.samza_model.specs.Files.{Image, checkpoint_file, changelog_file, output_file}
-use Rattle.samza_model.specs.Logs.{joined, HasLog}
+use Rattle.samza_model.specs.Logs.{joined, HasFrames, HasLog}
 use Rattle.samza_model.specs.Meaning.{Meaning}
 use Rattle.samza_model.specs.Restored.{HasMark, IsNamed, Restores, id_of, next_at, count_at, IsMarked}
 use Rattle.samza_model.specs.Runs.{runs}
@@ -24,11 +24,12 @@ use Rattle.task_unit.specs.declared.acting.Holdings.{Holdings}
 use Rattle.task_unit.specs.declared.writing.Logs.{Logs}
 use Rattle.task_unit.specs.Acting.{held, undos_of, IsSized}
 use Rattle.task_unit.specs.Appending.{AreOpen}
-use Rattle.task_unit.specs.Held.{Held, tracked_at}
+use Rattle.task_unit.specs.Held.{Held, tracked_at, unlogged_at}
 use Rattle.task_unit.specs.declared.faults.OpenFault.{OpenFault}
 use Rattle.task_unit.specs.declared.faults.OpenFault.TheVariants.{Ahead}
-use Rattle.task_unit.specs.Refused.{WhyRefused, WhyNoInput}
+use Rattle.task_unit.specs.Refused.{CountsHold, WhyRefused, WhyNoInput}
 use Rattle.task_unit.specs.Standing.{IsOpenAt}
+use Rattle.task_unit.specs.Touched.{acts_of, touched, keys_in, records_of}
 use Rattle.task_unit.specs.Written.{AreSound}
 
 -- a setup of one input, for which a checkpoint with its names has a spelling
@@ -74,12 +75,44 @@ pub record IsUnit {D : Type 0} (tells : Type 0) (reads : D → Image) (images : 
 abbrev pub SendsFollow : Image → Image → Setup → List (List Record) → Type 0
 SendsFollow before after s unsent = (j : ℕ) (had : List Record) → j < length s.outputs → HasLog (before (output_file j)) had → HasLog (after (output_file j)) (had ++ sent_at unsent j)
 
--- the image has the next checkpoint: its number is one more, it covers all below the next offset, and it restores to these contents
+-- the file has the frames that it had
+abbrev pub SameFrames : Image → Image → ℕ → Type 0
+SameFrames before after file = (frames : List (List Record)) → HasFrames (before file) frames ↔ HasFrames (after file) frames
+
+-- each log of the task has the frames that it had
+pub record LogsStay (s : Setup) (before after : Image) : Type 0 where
+  pub marks : SameFrames before after checkpoint_file
+  pub changelogs : (i : ℕ) → i < length s.stores → SameFrames before after (changelog_file i)
+  pub outputs : (j : ℕ) → j < length s.outputs → SameFrames before after (output_file j)
+
+-- the image has the next checkpoint: its number is one more, it covers all below the next offset, it counts all records of each
+-- changelog, and it restores to these contents
 pub record IsCommitted (s : Setup) (before after : Image) (mark : Option Checkpoint) (next : ℕ) (state : State) (made : Checkpoint) : Type 0 where
   pub id_is : made.id ≡ id_of mark + 1
   pub next_is : next_at (Some made) 0 ≡ Some next
+  pub counts : CountsHold after (Some made) (length s.stores)
   pub restores : Restores s after (Some made) state.stores
   pub sends : SendsFollow before after s state.sent
+
+-- each output's log has what it had, or that followed by what was sent
+abbrev pub SendsMayFollow : Image → Image → Setup → List (List Record) → Type 0
+SendsMayFollow before after s unsent = (j : ℕ) (had : List Record) → j < length s.outputs → HasLog (before (output_file j)) had
+    → HasLog (after (output_file j)) had ⊎ HasLog (after (output_file j)) (had ++ sent_at unsent j)
+
+-- the image has the checkpoint before, and restores to the contents before
+pub record IsUncommitted (s : Setup) (before after : Image) (mark : Option Checkpoint) (contents : List Content) (unsent : List (List Record)) : Type 0 where
+  pub restores : Restores s after mark contents
+  pub sends : SendsMayFollow before after s unsent
+
+-- what a crash in a commit leaves: the checkpoint before and its contents, or the next checkpoint and the unit's stores
+abbrev pub CommitLeaves : Setup → Image → Image → Option Checkpoint → List Content → ℕ → State → Type 0
+CommitLeaves s before after mark contents next state = IsUncommitted s before after mark contents state.sent ⊎ ((made : Checkpoint) × IsCommitted s before after mark next state made)
+
+-- what a crash in an opening leaves: the files restore to the checkpoint and the contents to which they did, and each output's
+-- log has what it had
+pub record OpeningLeaves (s : Setup) (before after : Image) : Type 0 where
+  pub restores : (mark : Option Checkpoint) (contents : List Content) → Restores s before mark contents → Restores s after mark contents
+  pub sends : (j : ℕ) (had : List Record) → j < length s.outputs → HasLog (before (output_file j)) had → HasLog (after (output_file j)) had
 
 abbrev pub content_code : Coded Content
 content_code = fin.code (coded_list coded_ℕ) (coded_list coded_ℕ)
@@ -97,10 +130,21 @@ pub record UnitValue (P D S : Type 0) : Type 0 where
   pub next : ℕ
   -- the stores' contents, and what each output was sent since the last commit
   pub state : State
+  -- what a commit will append of each store: one record for each key that was set or taken away since the last commit, in the
+  -- keys' order, with its value now
+  pub unlogged : List (List Record)
   -- the last checkpoint
   pub mark : Option Checkpoint
   -- a commit was begun and not finished
   pub broken : Bool
+
+-- nothing was sent to an output since the last commit
+abbrev pub NothingUnsent : Setup → List (List Record) → Type 0
+NothingUnsent s sent = (j : ℕ) → j < length s.outputs → sent_at sent j ≡ []
+
+-- no key of a store was set or taken away since the last commit
+abbrev pub NothingUnlogged : Setup → List (List Record) → Type 0
+NothingUnlogged s unlogged = (i : ℕ) → i < length s.stores → unlogged_at unlogged i ≡ []
 
 -- the setup's one input
 abbrev pub input_of : Setup → InputSetup
@@ -113,11 +157,14 @@ pub record IsMessage (s : Setup) (messages : List Record) (offset : ℕ) (e : En
   pub body_is : slice_get messages offset ≡ Some e.body
 
 -- the job was done with the next message, and the unit stands behind it
-pub record IsProcessed (job : Meaning) (s : Setup) (messages : List Record) (next : ℕ) (state : State) (next' : ℕ) (state' : State) : Type 0 where
+pub record IsProcessed (job : Meaning) (s : Setup) (messages : List Record) (next : ℕ) (state : State) (unlogged : List (List Record)) (next' : ℕ) (state' : State) (unlogged' : List (List Record)) : Type 0 where
   pub message : Envelope
   pub is_next : IsMessage s messages next message
   pub ended : (runs job s message state).end ≡ None
   pub state_is : (runs job s message state).state ≡ state'
+  -- the keys that were unlogged and those that the job set or took away, each with its value now
+  pub unlogged_is : (i : ℕ) → i < length s.stores
+      → unlogged_at unlogged' i ≡ records_of (store_at state'.stores i) (touched i (keys_in (unlogged_at unlogged i)) (acts_of job s message state))
   pub next_is : next' ≡ next + 1
 
 -- the job failed the next message

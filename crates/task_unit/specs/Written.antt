@@ -1,11 +1,12 @@
 -- What a commit writes to a task's logs.
-use Rattle.std.specs.Prelude.{◌≡◌, ◌≤◌, false, All, List, [], ◌∷◌, ◌++◌, length}
+use Rattle.std.specs.Prelude.{◌≡◌, ◌≤◌, ◌⊎◌, false, All, List, [], ◌∷◌, ◌++◌, length}
 use Rattle.samza_model.specs.declared.messages.Record.{Record}
 use Rattle.samza_model.specs.Files.{Image, checkpoint_file, changelog_file, output_file}
 use Rattle.log_frame.specs.Frame.{FrameView, IsFrame}
 use Rattle.topic_log.specs.declared.logs.Log.{Log}
 use Rattle.topic_log.specs.Opened.{is_broken}
 use Rattle.task_unit.specs.Appending.{AreOpen, AreAppended}
+use Rattle.task_unit.specs.Room.{HasRoom, LacksRoom, HaveRoom, OneLacksRoom}
 use Rattle.task_unit.specs.Standing.{IsOpenAt}
 use Rattle.task_unit.specs.declared.writing.Logs.{Logs}
 use Rattle.task_unit.specs.declared.writing.Plan.{Plan}
@@ -30,6 +31,16 @@ pub record IsPlanFor (logs : Logs) (plan : Plan) : Type 0 where
   pub changes : length plan.changes.items ≡ length logs.changelogs.items
   pub sends : length plan.sends.items ≡ length logs.outputs.items
   pub few : length logs.changelogs.items ≤ 15
+
+-- no file passes 2^40 bytes by the plan
+pub record IsRoomFor (logs : Logs) (plan : Plan) : Type 0 where
+  pub marks : HasRoom logs.marks (plan.frame ∷ [])
+  pub changelogs : HaveRoom logs.changelogs.items plan.changes.items
+  pub outputs : HaveRoom logs.outputs.items plan.sends.items
+
+-- one of the files passes 2^40 bytes by the plan
+abbrev pub IsNoRoomFor : Logs → Plan → Type 0
+IsNoRoomFor logs plan = OneLacksRoom logs.outputs.items plan.sends.items ⊎ (OneLacksRoom logs.changelogs.items plan.changes.items ⊎ LacksRoom logs.marks (plan.frame ∷ []))
 
 -- the checkpoint file's log has one frame more
 abbrev pub MarksAppended : Image → (Image → Type 0) → Image → (Image → Type 0) → Log → Log → FrameView → Type 0

@@ -5,7 +5,8 @@ ghost use Rattle.std.specs.FinMap as map;
 ghost use Rattle.samza_model.specs.Content.{changed, answer_of, found, found_pair, next_pair};
 ghost use Rattle.samza_model.specs.Limits.{act_fits, key_fits, value_fits, IsWithinLimits};
 ghost use Rattle.samza_model.specs.Runs.{end_at, run_on, runs};
-ghost use Rattle.task_unit.specs.Acting.{held, undos_of, GoesBack, with_stored, with_sent, IsSized, SameSizes, KeepsClean, end_seen};
+ghost use Rattle.task_unit.specs.Acting.{held, undos_of, GoesBack, with_stored, with_sent, IsSized, SameSizes, KeepsClean, IsTouched, AreTouched, end_seen};
+ghost use Rattle.task_unit.specs.Touched.{acts_of};
 ghost use Rattle.samza_model.specs.declared.turns.Why.{Why};
 ghost use Rattle.task_unit.specs.Held.{Held, state_of, tracked_at, taken_back, MayTake, LeadsTo};
 
@@ -103,6 +104,7 @@ impl Holdings {
         requires value { length value ≤ 65536 }
         ensures answered { IfOk result (λ a. a ≡ answer_of (state_of (held self.old)) (Act.Put store key value)) }
         ensures made { OnOk result (state_of (held self.new) ≡ changed (state_of (held self.old)) (Act.Put store key value)) }
+        ensures touched { OnOk result (IsTouched (held self.old) (held self.new) (Act.Put store key value)) }
         ensures back { GoesBack self.old self.new }
         ensures clean { KeepsClean (held self.old) (held self.new) }
         ensures sizes { SameSizes (held self.old) (held self.new) }
@@ -119,6 +121,7 @@ impl Holdings {
         requires key { length key ≤ 1024 }
         ensures answered { IfOk result (λ a. a ≡ answer_of (state_of (held self.old)) (Act.Delete store key)) }
         ensures made { OnOk result (state_of (held self.new) ≡ changed (state_of (held self.old)) (Act.Delete store key)) }
+        ensures touched { OnOk result (IsTouched (held self.old) (held self.new) (Act.Delete store key)) }
         ensures back { GoesBack self.old self.new }
         ensures clean { KeepsClean (held self.old) (held self.new) }
         ensures sizes { SameSizes (held self.old) (held self.new) }
@@ -135,6 +138,7 @@ impl Holdings {
         requires limits { IsWithinLimits body }
         ensures answered { IfOk result (λ a. a ≡ answer_of (state_of (held self.old)) (Act.Send output body)) }
         ensures made { OnOk result (state_of (held self.new) ≡ changed (state_of (held self.old)) (Act.Send output body)) }
+        ensures touched { OnOk result (IsTouched (held self.old) (held self.new) (Act.Send output body)) }
         ensures back { GoesBack self.old self.new }
         ensures clean { KeepsClean (held self.old) (held self.new) }
         ensures sizes { SameSizes (held self.old) (held self.new) }
@@ -193,6 +197,7 @@ impl Holdings {
         requires sized { IsSized setup.now (held self.old) }
         ensures answered { IfOk result (λ a. a ≡ answer_of (state_of (held self.old)) act) }
         ensures made { OnOk result (state_of (held self.new) ≡ changed (state_of (held self.old)) act) }
+        ensures touched { OnOk result (IsTouched (held self.old) (held self.new) act) }
         ensures back { GoesBack self.old self.new }
         ensures clean { KeepsClean (held self.old) (held self.new) }
         ensures sized { IsSized setup.now (held self.new) }
@@ -218,6 +223,7 @@ impl Holdings {
     ) -> Result<Option<Why>, NoMemory>
         requires { IsSized setup.now (held self.old) }
         ensures ran { IfOk result (λ end. runs (J.meaning (J.plain job.now)) setup.now envelope.now (state_of (held self.old)) ≡ record { state = state_of (held self.new); end = end }) }
+        ensures touched { OnOk result (AreTouched (held self.old) (held self.new) (acts_of (J.meaning (J.plain job.now)) setup.now envelope.now (state_of (held self.old)))) }
         ensures back { GoesBack self.old self.new }
         ensures clean { KeepsClean (held self.old) (held self.new) }
         ensures sized { IsSized setup.now (held self.new) }
@@ -253,6 +259,7 @@ impl Holdings {
         requires sized { IsSized setup.now (held self.old) }
         ensures ended { IfOk result (λ end. (runs (J.meaning (J.plain job.now)) setup.now envelope.now (state_of (held self.old))).end ≡ end) }
         ensures done { result ≡ Ok None → (runs (J.meaning (J.plain job.now)) setup.now envelope.now (state_of (held self.old))).state ≡ state_of (held self.new) }
+        ensures touched { result ≡ Ok None → AreTouched (held self.old) (held self.new) (acts_of (J.meaning (J.plain job.now)) setup.now envelope.now (state_of (held self.old))) }
         ensures failed { (why : Why) → result ≡ Ok (Some why) → held self.new ≡ held self.old }
         ensures err { OnErr result (held self.new ≡ held self.old) }
         ensures clean { KeepsClean (held self.old) (held self.new) }

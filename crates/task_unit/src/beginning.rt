@@ -1,16 +1,19 @@
 // Where a unit begins: its files restored, its input read, and its first message found.
-ghost use Rattle.std.specs.Prelude.{◌≡◌, ◌≢◌, ◌≤◌, ◌<◌, ◌⊎◌, ℕ, [], false, List, length, Some, None, IfOk, IfErr, IfSome};
+ghost use Rattle.std.specs.Prelude.{◌≡◌, ◌≢◌, ◌≤◌, ◌<◌, ◌⊎◌, ℕ, [], false, List, length, Some, None, IfOk, IfErr, IfSome, OnOk};
 ghost use Rattle.samza_model.specs.declared.messages.Record.{Record as RecordValue};
 ghost use Rattle.samza_model.specs.declared.messages.Envelope.{Envelope as EnvelopeValue};
 ghost use Rattle.samza_model.specs.declared.checkpoints.Checkpoint.{Checkpoint as CheckpointValue};
 ghost use Rattle.samza_model.specs.Content.{sent_at};
 ghost use Rattle.samza_model.specs.Counters.{Rose};
+ghost use Rattle.samza_model.specs.Files.{Image};
 ghost use Rattle.samza_model.specs.Logs.{HasLog};
 ghost use Rattle.samza_model.specs.Restored.{Restores, next_at, start_of};
+ghost use Rattle.disk_model.specs.Images.{LeavesOnly};
+ghost use Rattle.task_unit.specs.Crashes.{KeepsEach};
 ghost use Rattle.task_unit.specs.Acting.{held, undos_of, IsSized};
-ghost use Rattle.task_unit.specs.Held.{state_of};
-ghost use Rattle.task_unit.specs.Refused.{WhyNoInput};
-ghost use Rattle.task_unit.specs.Units.{IsSetUp, IsMessage, OnDisk, input_of, WhyNotOpened};
+ghost use Rattle.task_unit.specs.Held.{AreClean, state_of};
+ghost use Rattle.task_unit.specs.Refused.{CountsHold, WhyNoInput};
+ghost use Rattle.task_unit.specs.Units.{IsSetUp, LogsStay, IsMessage, OnDisk, input_of, WhyNotOpened};
 ghost use Rattle.task_unit.specs.Written.{AreSound};
 
 use crate::OpenFault;
@@ -165,16 +168,21 @@ pub(crate) fn start<D: Disk, S: Shelf>(
     requires { IsSetUp setup.now }
     ensures on_disk { IfOk result (λ r. D.tells → OnDisk (D.reads disk.new) (D.images disk.new) setup.now r.logs r.mark (held r.holdings)) }
     ensures restored { IfOk result (λ r. D.tells → Restores setup.now (D.reads disk.old) r.mark (state_of (held r.holdings)).stores) }
+    ensures counts { IfOk result (λ r. D.tells → CountsHold (D.reads disk.old) r.mark (length setup.now.stores)) }
+    ensures logs_stay { OnOk result (D.tells → LogsStay setup.now (D.reads disk.old) (D.reads disk.new)) }
     ensures unsent { IfOk result (λ r. (j : ℕ) → j < length setup.now.outputs → sent_at (held r.holdings).unsent j ≡ []) }
     ensures messages { IfOk result (λ r. S.tells → HasLog (S.bytes shelf.old) r.messages.items) }
     ensures start { IfOk result (λ r. r.next ≡ start_of (next_at r.mark 0) (input_of setup.now) (record { first = 0; records = r.messages.items })) }
     ensures within { IfOk result (λ r. r.next ≤ length r.messages.items) }
+    ensures clean { IfOk result (λ r. AreClean (held r.holdings).stores) }
     ensures sized { IfOk result (λ r. IsSized setup.now (held r.holdings)) }
     ensures idle { IfOk result (λ r. undos_of r.holdings ≡ []) }
     ensures changelogs { IfOk result (λ r. length r.logs.changelogs.items ≡ length setup.now.stores) }
     ensures outputs { IfOk result (λ r. length r.logs.outputs.items ≡ length setup.now.outputs) }
     ensures sound { IfOk result (λ r. AreSound r.logs) }
     ensures why { IfErr result (λ e. WhyNotOpened D.tells S.tells setup.now (D.reads disk.old) (S.bytes shelf.old) e) }
+    ensures durable { IfOk result (λ r. D.tells → (c : Image) → D.images disk.new c → Restores setup.now c r.mark (state_of (held r.holdings)).stores) }
+    ensures any_moment { D.tells → LeavesOnly D.call_number D.images D.images_since disk.old disk.new KeepsEach }
     ensures device { IfErr result (λ e. e ≡ OpenFault.Device → Rose (D.fault_count disk.old) (D.fault_count disk.new) ⊎ Rose (S.fault_count shelf.old) (S.fault_count shelf.new)) }
     ensures later { (D.fault_count disk.old ≤ D.fault_count disk.new) × (S.fault_count shelf.old ≤ S.fault_count shelf.new) }
     ensures name { D.name disk.new ≡ D.name disk.old }

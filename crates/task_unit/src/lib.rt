@@ -6,12 +6,16 @@ mod appending;
 mod beginning;
 mod committing;
 mod faults;
+mod laws;
+mod lists;
 mod naming;
 mod planning;
 mod restoring;
+mod room;
 mod sends;
 mod units;
 mod writing;
 
 pub use faults::{CommitFault, OneFault, OpenFault};
-pub use units::OneUnit;
+pub use laws::{open_one_opens_or_says_why, opens_or_says_why, restores_to_one};
+pub use units::{Mark, OneUnit};

@@ -7,65 +7,57 @@ ghost use Rattle.samza_model.specs.Limits.{IsWithinLimits};
 ghost use Rattle.samza_model.specs.Restored.{IsNamed, next_at, count_at};
 ghost use Rattle.log_frame.specs.Frame.{IsFrame};
 ghost use Rattle.task_unit.specs.Naming.{mark_names, setup_names};
-ghost use Rattle.task_unit.specs.Planned.{LogsChanges, LogsSends, PlansStores, PlansSends};
+ghost use Rattle.task_unit.specs.Planned.{PlansStore, PlansStores, PlansSends};
 
-use crate::CommitFault;
+use crate::lists::put;
 use crate::naming::topic_name;
-use crate::restoring::counted;
+use crate::room::count_behind;
 use crate::sends::Sends;
 use checkpoint_log::encode_checkpoint;
 use kv_store::TrackedTable;
 use log_frame::{Frame, encode, frames_of};
-use samza_model::{Checkpoint, InputMark, Items, NoMemory, Plain, Setup, StoreMark};
+use samza_model::{Checkpoint, InputMark, Items, NoMemory, Plain, Setup, StoreMark, StoreSetup};
 use std::alloc::Global;
+use topic_log::Log;
 
-/// The frames of a store's changes, and the number of their records.
+/// The frames of a store's changes, and what the next checkpoint says of the store.
 fn plan_store(
     alloc: Global,
+    setup: &StoreSetup,
     store: &TrackedTable,
-    batch: u32,
-) -> Result<(Items<Frame>, u64), NoMemory>
-    requires some { 1 ≤ batch }
-    requires few { batch ≤ 4096 }
-    ensures { IfOk result (λ r. LogsChanges store.now r.0 r.1) }
+    changelog: &Log,
+) -> Result<(Items<Frame>, StoreMark), NoMemory>
+    requires some { 1 ≤ setup.now.batch }
+    requires few { setup.now.batch ≤ 4096 }
+    ensures plans { IfOk result (λ r. PlansStore setup.now.batch store.now changelog.now r.0 r.1.count) }
+    ensures name { IfOk result (λ r. r.1.name ≡ setup.now.name) }
 {
     let records = store.unlogged(alloc)?;
-    let frames = frames_of(alloc, records.as_slice(), batch)?;
-    Ok((Items::from_vec(frames), records.len() as u64))
+    let frames = frames_of(alloc, records.as_slice(), setup.batch)?;
+    let count = count_behind(changelog, frames.as_slice());
+    let name = setup.name.copy(alloc)?;
+    Ok((Items::from_vec(frames), StoreMark { name, count }))
 }
 
-/// Puts an item behind a list.
-fn put<T: Drop>(list: &mut Vec<T>, item: T) -> Result<(), NoMemory>
-    ensures { OnOk result (list.new.items ≡ list.old.items ++ item ∷ []) }
-{
-    list.push(item)?;
-    Ok(())
-}
-
-/// The frames of each store's changes, and how many records the next checkpoint counts of each.
+/// The frames of each store's changes, and what the next checkpoint says of each.
 pub(crate) fn plan_stores(
     alloc: Global,
     setup: &Setup,
-    mark: &Option<Checkpoint>,
     stores: &[TrackedTable],
-) -> Result<(Vec<Items<Frame>>, Vec<StoreMark>), CommitFault>
+    changelogs: &[Log],
+) -> Result<(Vec<Items<Frame>>, Vec<StoreMark>), NoMemory>
     requires as_many { length stores.now ≡ length setup.now.stores }
+    requires logs { length changelogs.now ≡ length setup.now.stores }
     requires batches { AllByRecursion (λ t. (1 ≤ t.batch) × (t.batch ≤ 4096)) setup.now.stores }
-    ensures never { IfErr result (λ e. (e ≢ CommitFault.Failed) × (e ≢ CommitFault.Broken) × (e ≢ CommitFault.Windowing) × (e ≢ CommitFault.Device)) }
-    ensures plans { IfOk result (λ r. PlansStores setup.now mark.now stores.now r.0.items r.1.items) }
+    ensures { IfOk result (λ r. PlansStores setup.now changelogs.now stores.now r.0.items r.1.items) }
 {
     let mut frames = Vec::new(alloc);
     let mut marks = Vec::new(alloc);
     for i in 0..stores.len() {
         let setup = &setup.stores.as_slice()[i];
-        let (more, count) = plan_store(alloc, &stores[i], setup.batch)?;
-        let count = match counted(mark, i).checked_add(count) {
-            Some(count) => count,
-            None => return Err(CommitFault::Limit),
-        };
-        let name = setup.name.copy(alloc)?;
+        let (more, mark) = plan_store(alloc, setup, &stores[i], &changelogs[i])?;
         put(&mut frames, more)?;
-        put(&mut marks, StoreMark { name, count })?;
+        put(&mut marks, mark)?;
     }
     Ok((frames, marks))
 }

@@ -5,14 +5,17 @@ ghost use Rattle.samza_model.specs.declared.checkpoints.Checkpoint.{Checkpoint a
 ghost use Rattle.samza_model.specs.Counters.{Rose};
 ghost use Rattle.samza_model.specs.Files.{checkpoint_file, changelog_file, output_file};
 ghost use Rattle.samza_model.specs.Restored.{Restores, HasMark, IsNamed, count_at};
-ghost use Rattle.disk_model.specs.Images.{SameElsewhere};
-ghost use Rattle.task_unit.specs.Held.{contents_of};
+ghost use Rattle.disk_model.specs.Images.{SameElsewhere, LeavesOnly};
+ghost use Rattle.kv_store.specs.Tracked.{no_keys};
+ghost use Rattle.task_unit.specs.Held.{AreClean, contents_of};
 ghost use Rattle.topic_log.specs.Opened.{file_of, is_broken, IsOpen};
+ghost use Rattle.task_unit.specs.Crashes.{KeepsEach};
 ghost use Rattle.task_unit.specs.Standing.{StandsAt, HoldsStore, HoldsMark, HoldsStores, HoldsOutputs, IsRestored, SameFrom};
 ghost use Rattle.task_unit.specs.Written.{AllSound, AreSound};
 ghost use Rattle.task_unit.specs.Refused.{IsMiscount, IsOpeningOf, WhyNoFile, WhyNoMark, WhyNoStore, WhyNoStores, WhyNoOutputs, WhyRefused};
 
 use crate::OpenFault;
+use crate::lists::put;
 use crate::naming::is_named;
 use crate::writing::Logs;
 use changelog::fold;
@@ -58,6 +61,8 @@ fn open_file<D: Disk>(alloc: Global, disk: &mut D, file: u32) -> Result<Log, Ope
     ensures elsewhere { OnOk result (D.tells → SameElsewhere file (D.reads disk.old) (D.reads disk.new)) }
     ensures others { D.tells → (log : Log) (frames : List (List Record)) → file_of log ≢ file → IsOpen (D.reads disk.old) (D.images disk.old) log frames → IsOpen (D.reads disk.new) (D.images disk.new) log frames }
     ensures fault { IfErr result (λ e. D.tells → WhyNoFile (D.reads disk.old) file e) }
+    // A crash at any moment leaves each file the frames that it had.
+    ensures any_moment { D.tells → LeavesOnly D.call_number D.images D.images_since disk.old disk.new KeepsEach }
     ensures device { IfErr result (λ e. e ≡ OpenFault.Device → Rose (D.fault_count disk.old) (D.fault_count disk.new)) }
     ensures later { D.fault_count disk.old ≤ D.fault_count disk.new }
     ensures name { D.name disk.new ≡ D.name disk.old }
@@ -90,6 +95,7 @@ fn open_marks<D: Disk>(
     ensures sound { IfOk result (λ r. is_broken r.0 ≡ false) }
     ensures named { IfOk result (λ r. (k : CheckpointValue) → r.1 ≡ Some k → IsNamed setup.now k) }
     ensures why { IfErr result (λ e. D.tells → WhyNoMark setup.now (D.reads disk.old) e) }
+    ensures any_moment { D.tells → LeavesOnly D.call_number D.images D.images_since disk.old disk.new KeepsEach }
     ensures device { IfErr result (λ e. e ≡ OpenFault.Device → Rose (D.fault_count disk.old) (D.fault_count disk.new)) }
     ensures later { D.fault_count disk.old ≤ D.fault_count disk.new }
     ensures name { D.name disk.new ≡ D.name disk.old }
@@ -137,10 +143,12 @@ fn open_store<D: Disk>(
 ) -> Result<(Log, TrackedTable), OpenFault>
     requires { store < 15 }
     ensures store { IfOk result (λ r. D.tells → HoldsStore (D.reads disk.old) (D.reads disk.new) (D.images disk.new) (changelog_file store) count r.0 r.1.content) }
+    ensures clean { IfOk result (λ r. r.1.dirty ≡ no_keys) }
     ensures sound { IfOk result (λ r. is_broken r.0 ≡ false) }
     ensures elsewhere { OnOk result (D.tells → SameElsewhere (changelog_file store) (D.reads disk.old) (D.reads disk.new)) }
     ensures others { D.tells → (log : Log) (frames : List (List Record)) → file_of log ≢ changelog_file store → IsOpen (D.reads disk.old) (D.images disk.old) log frames → IsOpen (D.reads disk.new) (D.images disk.new) log frames }
     ensures why { IfErr result (λ e. D.tells → WhyNoStore (D.reads disk.old) store count e) }
+    ensures any_moment { D.tells → LeavesOnly D.call_number D.images D.images_since disk.old disk.new KeepsEach }
     ensures device { IfErr result (λ e. e ≡ OpenFault.Device → Rose (D.fault_count disk.old) (D.fault_count disk.new)) }
     ensures later { D.fault_count disk.old ≤ D.fault_count disk.new }
     ensures name { D.name disk.new ≡ D.name disk.old }
@@ -161,7 +169,7 @@ fn open_store<D: Disk>(
 }
 
 /// How many records of the i-th store's changelog the checkpoint counts.
-pub(crate) fn counted(mark: &Option<Checkpoint>, store: usize) -> u64
+fn counted(mark: &Option<Checkpoint>, store: usize) -> u64
     ensures { result ≡ count_at mark.now store }
 {
     match mark {
@@ -170,17 +178,6 @@ pub(crate) fn counted(mark: &Option<Checkpoint>, store: usize) -> u64
             None => 0,
         },
         None => 0,
-    }
-}
-
-/// Puts an item behind a list.
-fn put<T: Drop>(list: &mut Vec<T>, item: T) -> Result<(), OpenFault>
-    ensures ok { OnOk result (list.new.items ≡ list.old.items ++ item ∷ []) }
-    ensures err { IfErr result (λ e. e ≡ OpenFault.NoMemory) }
-{
-    match list.push(item) {
-        Ok(()) => Ok(()),
-        Err(_) => Err(OpenFault::NoMemory),
     }
 }
 
@@ -195,9 +192,11 @@ fn open_stores<D: Disk>(
     ensures stores { IfOk result (λ r. D.tells → HoldsStores (D.reads disk.old) (D.reads disk.new) (D.images disk.new) mark.now stores r.0.items (contents_of r.1.items)) }
     ensures behind { OnOk result (D.tells → SameFrom (changelog_file stores) (D.reads disk.old) (D.reads disk.new)) }
     ensures sizes { IfOk result (λ r. (length r.0.items ≡ stores) × (length r.1.items ≡ stores)) }
+    ensures clean { IfOk result (λ r. AreClean r.1.items) }
     ensures sound { IfOk result (λ r. AllSound r.0.items) }
     ensures others { OnOk result (D.tells → (log : Log) (frames : List (List Record)) → file_of log ≡ checkpoint_file → IsOpen (D.reads disk.old) (D.images disk.old) log frames → IsOpen (D.reads disk.new) (D.images disk.new) log frames) }
     ensures why { IfErr result (λ e. D.tells → WhyNoStores (D.reads disk.old) mark.now stores e) }
+    ensures any_moment { D.tells → LeavesOnly D.call_number D.images D.images_since disk.old disk.new KeepsEach }
     ensures device { IfErr result (λ e. e ≡ OpenFault.Device → Rose (D.fault_count disk.old) (D.fault_count disk.new)) }
     ensures later { D.fault_count disk.old ≤ D.fault_count disk.new }
     ensures name { D.name disk.new ≡ D.name disk.old }
@@ -211,11 +210,11 @@ fn open_stores<D: Disk>(
         };
         match put(&mut logs, log) {
             Ok(()) => {}
-            Err(fault) => return Err(fault),
+            Err(_) => return Err(OpenFault::NoMemory),
         }
         match put(&mut tables, table) {
             Ok(()) => {}
-            Err(fault) => return Err(fault),
+            Err(_) => return Err(OpenFault::NoMemory),
         }
     }
     Ok((logs, tables))
@@ -230,6 +229,7 @@ fn open_outputs<D: Disk>(alloc: Global, disk: &mut D, outputs: u32) -> Result<Ve
     ensures behind { OnOk result (D.tells → SameFrom (output_file outputs) (D.reads disk.old) (D.reads disk.new)) }
     ensures others { OnOk result (D.tells → (log : Log) (frames : List (List Record)) → file_of log < output_file 0 → IsOpen (D.reads disk.old) (D.images disk.old) log frames → IsOpen (D.reads disk.new) (D.images disk.new) log frames) }
     ensures why { IfErr result (λ e. D.tells → WhyNoOutputs (D.reads disk.old) outputs e) }
+    ensures any_moment { D.tells → LeavesOnly D.call_number D.images D.images_since disk.old disk.new KeepsEach }
     ensures device { IfErr result (λ e. e ≡ OpenFault.Device → Rose (D.fault_count disk.old) (D.fault_count disk.new)) }
     ensures later { D.fault_count disk.old ≤ D.fault_count disk.new }
     ensures name { D.name disk.new ≡ D.name disk.old }
@@ -242,7 +242,7 @@ fn open_outputs<D: Disk>(alloc: Global, disk: &mut D, outputs: u32) -> Result<Ve
         };
         match put(&mut logs, log) {
             Ok(()) => {}
-            Err(fault) => return Err(fault),
+            Err(_) => return Err(OpenFault::NoMemory),
         }
     }
     Ok(logs)
@@ -258,11 +258,13 @@ pub(crate) fn restore<D: Disk>(
     requires few_outputs { length setup.now.outputs ≤ 8 }
     ensures restored { IfOk result (λ r. D.tells → IsRestored setup.now (D.reads disk.old) (D.reads disk.new) (D.images disk.new) r.mark r.logs.marks r.logs.changelogs.items r.logs.outputs.items (contents_of r.tables.items)) }
     ensures tables { IfOk result (λ r. length r.tables.items ≡ length setup.now.stores) }
+    ensures clean { IfOk result (λ r. AreClean r.tables.items) }
     ensures changelogs { IfOk result (λ r. length r.logs.changelogs.items ≡ length setup.now.stores) }
     ensures outputs { IfOk result (λ r. length r.logs.outputs.items ≡ length setup.now.outputs) }
     ensures sound { IfOk result (λ r. AreSound r.logs) }
     ensures named { IfOk result (λ r. (k : CheckpointValue) → r.mark ≡ Some k → IsNamed setup.now k) }
     ensures why { IfErr result (λ e. D.tells → WhyRefused setup.now (D.reads disk.old) e) }
+    ensures any_moment { D.tells → LeavesOnly D.call_number D.images D.images_since disk.old disk.new KeepsEach }
     ensures device { IfErr result (λ e. e ≡ OpenFault.Device → Rose (D.fault_count disk.old) (D.fault_count disk.new)) }
     ensures later { D.fault_count disk.old ≤ D.fault_count disk.new }
     ensures name { D.name disk.new ≡ D.name disk.old }

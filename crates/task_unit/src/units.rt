@@ -1,12 +1,16 @@
 // One task's unit: it restores from its files, processes its messages in order, and commits.
-ghost use Rattle.std.specs.Prelude.{◌≡◌, ◌≢◌, ◌≤◌, ◌<◌, ◌+◌, ◌⊎◌, ℕ, [], true, false, length, Option, Some, None, IfOk, IfErr, OnOk, OnErr, Err};
+ghost use Rattle.std.specs.Prelude.{◌≡◌, ◌≢◌, ◌≤◌, ◌<◌, ◌+◌, ◌⊎◌, ◌↔◌, ℕ, [], true, false, List, length, Option, Some, None, IfOk, IfErr, OnOk, OnErr, Err};
 ghost use Rattle.samza_model.specs.Counters.{Rose};
 ghost use Rattle.samza_model.specs.declared.checkpoints.Checkpoint.{Checkpoint as CheckpointValue};
 ghost use Rattle.samza_model.specs.declared.turns.Failure.{Failure as FailureValue};
-ghost use Rattle.samza_model.specs.Content.{sent_at};
+ghost use Rattle.samza_model.specs.Content.{Content};
+ghost use Rattle.samza_model.specs.Files.{Image};
 ghost use Rattle.samza_model.specs.Logs.{HasLog};
 ghost use Rattle.samza_model.specs.Restored.{Restores, next_at, start_of};
-ghost use Rattle.task_unit.specs.Units.{IsSetUp, IsCommitted, IsProcessed, IsFailed, input_of, WhyNotOpened};
+ghost use Rattle.disk_model.specs.Images.{LeavesOnly};
+ghost use Rattle.task_unit.specs.Growth.{PassesLimit};
+ghost use Rattle.task_unit.specs.Refused.{CountsHold};
+ghost use Rattle.task_unit.specs.Units.{IsSetUp, LogsStay, IsCommitted, CommitLeaves, IsProcessed, IsFailed, NothingUnsent, NothingUnlogged, OpeningLeaves, input_of, WhyNotOpened};
 
 use crate::acting::Holdings;
 use crate::beginning::{envelope_at, start};
@@ -17,6 +21,12 @@ use disk_model::{Disk, Shelf};
 use samza_model::{Checkpoint, Failure, Job, Record, Setup, Turn};
 use std::alloc::Global;
 use std::marker::Model;
+
+/// A checkpoint that was made, by its number.
+#[derive(Clone, Copy, Debug, PartialEq, Eq)]
+pub struct Mark {
+    pub id: u64,
+}
 
 /// One task: its job, its stores, its input and its logs.
 #[derive(Drop)]
@@ -38,14 +48,14 @@ pub struct OneUnit<'j, J: Job, D: Disk, S: Shelf> {
 impl<'j, J: Job, D: Disk, S: Shelf> Model for OneUnit<'j, J, D, S> {
     ghost use Rattle.std.specs.Coded.{codes};
     ghost use Rattle.task_unit.specs.Acting.{held};
-    ghost use Rattle.task_unit.specs.Held.{state_of};
+    ghost use Rattle.task_unit.specs.Held.{state_of, unlogged_of};
     ghost use Rattle.task_unit.specs.Units.{UnitValue, content_code, IsUnit};
 
     ghost Value = { UnitValue J.Plain D S };
 
     ghost coded = { Prim.hlevel (codes, content_code) };
 
-    ghost view = { λ u. record { job = J.plain u.job.now; setup = u.setup; disk = u.disk; shelf = u.shelf; messages = u.messages.items; begun = u.begun; next = u.next; state = state_of (held u.holdings); mark = u.mark; broken = u.broken } };
+    ghost view = { λ u. record { job = J.plain u.job.now; setup = u.setup; disk = u.disk; shelf = u.shelf; messages = u.messages.items; begun = u.begun; next = u.next; state = state_of (held u.holdings); unlogged = unlogged_of (held u.holdings).stores; mark = u.mark; broken = u.broken } };
 
     ghost invariant = { λ u. IsUnit D.tells D.reads D.images u.setup u.disk u.logs u.mark u.holdings u.messages.items u.begun u.next u.broken };
 }
@@ -62,9 +72,19 @@ impl<'j, J: Job, D: Disk, S: Shelf> OneUnit<'j, J, D, S> {
     ) -> Result<OneUnit<'j, J, D, S>, (OpenFault, D, S)>
         requires { IsSetUp setup }
         ensures restored { IfOk result (λ u. D.tells → Restores setup (D.reads disk) u.mark u.state.stores) }
-        ensures unsent { IfOk result (λ u. (j : ℕ) → j < length setup.outputs → sent_at u.state.sent j ≡ []) }
+        ensures outputs { IfOk result (λ u. length u.state.sent ≡ length setup.outputs) }
+        ensures unsent { IfOk result (λ u. NothingUnsent setup u.state.sent) }
+        ensures unlogged { IfOk result (λ u. NothingUnlogged setup u.unlogged) }
         ensures messages { IfOk result (λ u. S.tells → HasLog (S.bytes shelf) u.messages) }
         ensures start { IfOk result (λ u. (u.next ≡ start_of (next_at u.mark 0) (input_of setup) (record { first = 0; records = u.messages })) × (u.begun ≡ u.next)) }
+        ensures logs_stay { IfOk result (λ u. D.tells → LogsStay setup (D.reads disk) (D.reads u.disk)) }
+        // After Ok every image restores as the unit did.
+        ensures durable { IfOk result (λ u. D.tells → (c : Image) → D.images u.disk c → Restores setup c u.mark u.state.stores) }
+        // A crash at any moment leaves files that restore as before.
+        ensures any_moment { IfOk result (λ u. D.tells → LeavesOnly D.call_number D.images D.images_since disk u.disk (OpeningLeaves setup)) }
+        ensures back_any_moment { IfErr result (λ e. D.tells → LeavesOnly D.call_number D.images D.images_since disk e.1 (OpeningLeaves setup)) }
+        ensures within { IfOk result (λ u. u.next ≤ length u.messages) }
+        ensures counts { IfOk result (λ u. D.tells → CountsHold (D.reads disk) u.mark (length setup.stores)) }
         ensures given { IfOk result (λ u. (u.job ≡ J.plain job.now) × (u.setup ≡ setup) × (u.broken ≡ false)) }
         ensures disk { IfOk result (λ u. (D.name u.disk ≡ D.name disk) × (D.fault_count disk ≤ D.fault_count u.disk)) }
         ensures shelf { IfOk result (λ u. (S.name u.shelf ≡ S.name shelf) × (S.file u.shelf ≡ S.file shelf) × (S.fault_count shelf ≤ S.fault_count u.shelf)) }
@@ -94,13 +114,13 @@ impl<'j, J: Job, D: Disk, S: Shelf> OneUnit<'j, J, D, S> {
         }
     }
 
-    /// Processes the next message, all or nothing; false at the end of the input. After a refusal the stores, what is
-    /// unsent and the place are as before.
+    /// Processes the next message, all or nothing; false at the end of the input. After false and after a refusal all is as
+    /// before.
     pub fn one_message(&mut self) -> Result<bool, OneFault>
-        ensures processed { IfOk result (λ more. more ≡ true → IsProcessed (J.meaning self.old.job) self.old.setup self.old.messages self.old.next self.old.state self.new.next self.new.state) }
-        ensures end { IfOk result (λ more. more ≡ false → (length self.old.messages ≤ self.old.next) × (self.new.state ≡ self.old.state) × (self.new.next ≡ self.old.next)) }
+        ensures processed { IfOk result (λ more. more ≡ true → IsProcessed (J.meaning self.old.job) self.old.setup self.old.messages self.old.next self.old.state self.old.unlogged self.new.next self.new.state self.new.unlogged) }
+        ensures end { IfOk result (λ more. more ≡ false → (length self.old.messages ≤ self.old.next) × (self.new ≡ self.old)) }
         ensures failed { IfErr result (λ e. (f : FailureValue) → e ≡ OneFault.Failed f → IsFailed (J.meaning self.old.job) self.old.setup self.old.messages self.old.begun self.old.next self.old.state f) }
-        ensures kept { OnErr result ((self.new.state ≡ self.old.state) × (self.new.next ≡ self.old.next)) }
+        ensures kept { OnErr result (self.new ≡ self.old) }
         ensures given { (self.new.job ≡ self.old.job) × (self.new.setup ≡ self.old.setup) × (self.new.messages ≡ self.old.messages) × (self.new.begun ≡ self.old.begun) }
         ensures disk { self.new.disk ≡ self.old.disk }
         ensures shelf { self.new.shelf ≡ self.old.shelf }
@@ -129,20 +149,33 @@ impl<'j, J: Job, D: Disk, S: Shelf> OneUnit<'j, J, D, S> {
         }
     }
 
-    /// Commits: appends the changes of the stores and what the outputs were sent, and then the next checkpoint, which
-    /// covers the messages below the next one. After `Device` or `Limit` the unit is broken, and answers `Broken` from
-    /// then on.
-    pub fn commit(&mut self) -> Result<(), CommitFault>
+    /// Commits: appends what the outputs were sent and the changes of the stores, and then the next checkpoint, which
+    /// covers the messages below the next one. Memory is taken first, then `Limit` is tested over all files, and only then
+    /// anything is written. After `Device` the unit is broken, and answers `Broken` from then on.
+    pub fn commit(&mut self) -> Result<Mark, CommitFault>
         ensures committed { OnOk result (D.tells → (made : CheckpointValue) × (self.new.mark ≡ Some made) × IsCommitted self.old.setup (D.reads self.old.disk) (D.reads self.new.disk) self.old.mark self.old.next self.old.state made) }
-        ensures stores { self.new.state.stores ≡ self.old.state.stores }
-        ensures setup { self.new.setup ≡ self.old.setup }
-        ensures messages { self.new.messages ≡ self.old.messages }
-        ensures next { self.new.next ≡ self.old.next }
+        // After Ok every image has the next checkpoint.
+        ensures durable { OnOk result (D.tells → (made : CheckpointValue) × (self.new.mark ≡ Some made) × ((c : Image) → D.images self.new.disk c → IsCommitted self.old.setup (D.reads self.old.disk) c self.old.mark self.old.next self.old.state made)) }
+        // A crash at any moment leaves the checkpoint before with its contents, or the next one with the unit's.
+        ensures any_moment { D.tells → self.old.broken ≡ false → (contents : List Content) → Restores self.old.setup (D.reads self.old.disk) self.old.mark contents
+            → LeavesOnly D.call_number D.images D.images_since self.old.disk self.new.disk (λ _ c. CommitLeaves self.old.setup (D.reads self.old.disk) c self.old.mark contents self.old.next self.old.state) }
+        ensures answered { IfOk result (λ m. (made : CheckpointValue) × (self.new.mark ≡ Some made) × (m.id ≡ made.id)) }
+        ensures cleared { OnOk result (NothingUnsent self.old.setup self.new.state.sent) }
+        ensures flushed { OnOk result (NothingUnlogged self.old.setup self.new.unlogged) }
+        ensures given { (self.new.job ≡ self.old.job) × (self.new.setup ≡ self.old.setup) × (self.new.shelf ≡ self.old.shelf) × (self.new.messages ≡ self.old.messages) × (self.new.begun ≡ self.old.begun) }
+        ensures kept { (self.new.next ≡ self.old.next) × (self.new.state.stores ≡ self.old.state.stores) }
+        ensures unmade { OnErr result ((self.new.state ≡ self.old.state) × (self.new.unlogged ≡ self.old.unlogged) × (self.new.mark ≡ self.old.mark)) }
+        ensures refused { IfErr result (λ e. e ≢ CommitFault.Device → self.new ≡ self.old) }
+
+        ensures limit { IfErr result (λ e. e ≡ CommitFault.Limit → D.tells → PassesLimit self.old.setup (D.reads self.old.disk) self.old.unlogged self.old.state.sent) }
+        ensures tested { IfErr result (λ e. e ≡ CommitFault.Device → D.tells → PassesLimit self.old.setup (D.reads self.old.disk) self.old.unlogged self.old.state.sent → ⊥) }
+        ensures room { OnOk result (D.tells → PassesLimit self.old.setup (D.reads self.old.disk) self.old.unlogged self.old.state.sent → ⊥) }
+
         ensures ok { OnOk result ((self.old.broken ≡ false) × (self.new.broken ≡ false)) }
-        ensures broken { IfErr result (λ e. e ≡ CommitFault.Broken → self.old.broken ≡ true) }
+        ensures broken { IfErr result (λ e. (e ≡ CommitFault.Broken) ↔ (self.old.broken ≡ true)) }
         ensures breaks { IfErr result (λ e. e ≡ CommitFault.Device → self.new.broken ≡ true) }
-        ensures stays_broken { self.old.broken ≡ true → (result ≡ Err CommitFault.Broken) × (self.new.broken ≡ true) }
-        ensures never { IfErr result (λ e. (e ≢ CommitFault.Failed) × (e ≢ CommitFault.Windowing)) }
+        ensures stays_broken { self.old.broken ≡ true → (result ≡ Err CommitFault.Broken) × (self.new ≡ self.old) }
+        ensures never { IfErr result (λ e. (e ≢ CommitFault.Failed) × (e ≢ CommitFault.Windowing) × ((n : ℕ) → e ≢ CommitFault.Busy n)) }
         ensures device { IfErr result (λ e. e ≡ CommitFault.Device → Rose (D.fault_count self.old.disk) (D.fault_count self.new.disk)) }
         ensures later { D.fault_count self.old.disk ≤ D.fault_count self.new.disk }
         ensures name { D.name self.new.disk ≡ D.name self.old.disk }
@@ -150,16 +183,16 @@ impl<'j, J: Job, D: Disk, S: Shelf> OneUnit<'j, J, D, S> {
         if self.broken {
             return Err(CommitFault::Broken);
         }
-        let (plan, made) = match plan_commit(
+        let (plan, made) = plan_commit(
             self.alloc,
             &self.setup,
-            &self.mark,
+            &self.logs,
             &self.holdings,
             self.next,
-        ) {
-            Ok(planned) => planned,
-            Err(fault) => return Err(fault),
-        };
+        )?;
+        if !self.logs.has_room(&plan) {
+            return Err(CommitFault::Limit);
+        }
         self.broken = true;
         match self.logs.write(&mut self.disk, &plan) {
             Ok(()) => {}
@@ -167,9 +200,10 @@ impl<'j, J: Job, D: Disk, S: Shelf> OneUnit<'j, J, D, S> {
         }
         flush_all(&mut self.holdings.stores);
         clear_all(&mut self.holdings.unsent);
+        let mark = Mark { id: made.id };
         self.mark = Some(made);
         self.broken = false;
-        Ok(())
+        Ok(mark)
     }
 
     /// The disk and the shelf, given back.

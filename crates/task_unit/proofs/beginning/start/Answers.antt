@@ -9,7 +9,7 @@ use Rattle.kv_store.specs.Tracked.{Tracked}
 use Rattle.task_unit.specs.Acting.{held}
 use Rattle.task_unit.specs.Held.{contents_of}
 use Rattle.task_unit.specs.Standing.{IsRestored}
-use Rattle.task_unit.proofs.Begun.{stands_restored, restores, next_kept}
+use Rattle.task_unit.proofs.Begun.{stands_restored, restores, restored_in, counts_hold, logs_stay, next_kept}
 use Rattle.task_unit.proofs.beginning.start.Goals as goal
 
 pub returns-clause-on_disk : goal.returns-clause-on_disk
@@ -24,6 +24,20 @@ returns-clause-restored g c = λ told.
     let disk = g.D.Disk in
     let r = c.in-Ok.restored in
     restores c.args.setup.now (disk.reads c.args.disk.now) (disk.reads c.restore.new.disk) (disk.images c.restore.new.disk) r.mark r.logs (held c.in-Ok-hold.holdings)
+    (subst (λ (ts : List Tracked). IsRestored c.args.setup.now (disk.reads c.args.disk.now) (disk.reads c.restore.new.disk) (disk.images c.restore.new.disk) r.mark r.logs.marks r.logs.changelogs.items r.logs.outputs.items (contents_of ts)) (sym c.in-Ok-hold.ensures.stores) (c.in-Ok.ensures.restored told))
+
+pub returns-clause-logs_stay : goal.returns-clause-logs_stay
+returns-clause-logs_stay g c = λ told.
+    let disk = g.D.Disk in
+    let r = c.in-Ok.restored in
+    logs_stay c.args.setup.now (disk.reads c.args.disk.now) (disk.reads c.restore.new.disk) (disk.images c.restore.new.disk) r.mark r.logs (held c.in-Ok-hold.holdings)
+    (subst (λ (ts : List Tracked). IsRestored c.args.setup.now (disk.reads c.args.disk.now) (disk.reads c.restore.new.disk) (disk.images c.restore.new.disk) r.mark r.logs.marks r.logs.changelogs.items r.logs.outputs.items (contents_of ts)) (sym c.in-Ok-hold.ensures.stores) (c.in-Ok.ensures.restored told))
+
+pub returns-clause-counts : goal.returns-clause-counts
+returns-clause-counts g c = λ told.
+    let disk = g.D.Disk in
+    let r = c.in-Ok.restored in
+    counts_hold c.args.setup.now (disk.reads c.args.disk.now) (disk.reads c.restore.new.disk) (disk.images c.restore.new.disk) r.mark r.logs (held c.in-Ok-hold.holdings)
     (subst (λ (ts : List Tracked). IsRestored c.args.setup.now (disk.reads c.args.disk.now) (disk.reads c.restore.new.disk) (disk.images c.restore.new.disk) r.mark r.logs.marks r.logs.changelogs.items r.logs.outputs.items (contents_of ts)) (sym c.in-Ok-hold.ensures.stores) (c.in-Ok.ensures.restored told))
 
 pub returns-clause-start : goal.returns-clause-start
@@ -61,3 +75,14 @@ returns-in-Err-first_offset-clause-why g c =
       past = omega (arith, a.4, end);
       fault = a.1 ∙ ap (λ n. Ahead (Some 0) None a.0 n) end;
     }))
+
+pub returns-clause-durable : goal.returns-clause-durable
+returns-clause-durable g c = λ told f now.
+    let disk = g.D.Disk in
+    let r = c.in-Ok.restored in
+    let s = c.args.setup.now in
+    let reads = disk.reads c.restore.new.disk in
+    let images = disk.images c.restore.new.disk in
+    restores s f reads images r.mark r.logs (held c.in-Ok-hold.holdings)
+    (subst (λ (ts : List Tracked). IsRestored s f reads images r.mark r.logs.marks r.logs.changelogs.items r.logs.outputs.items (contents_of ts)) (sym c.in-Ok-hold.ensures.stores)
+    (restored_in s (disk.reads c.args.disk.now) reads images r.mark r.logs (contents_of c.in-Ok.restored.tables.items) (c.in-Ok.ensures.restored told) f now))

@@ -3,6 +3,7 @@ use Rattle.checkpoint_log.specs.Ends.{EndsAs}
 use Rattle.samza_model.specs.Files.{checkpoint_file}
 use Rattle.task_unit.specs.Standing.{IsOpenAt, HoldsMark}
 use Rattle.task_unit.proofs.Openings.{has_mark}
+use Rattle.task_unit.proofs.Reopening.{kept_read}
 use Rattle.task_unit.proofs.restoring.open_marks.Goals as goal
 
 pub returns-in-Ok-true-clause-mark : goal.returns-in-Ok-true-clause-mark
@@ -29,3 +30,35 @@ returns-in-Ok-false-clause-why g c = λ told.
 
 pub returns-in-Ok-true-clause-named : goal.returns-in-Ok-true-clause-named
 returns-in-Ok-true-clause-named g c = c.named.ensures.named (c.in-Ok-true.is ∙ ap (λ b. Ok b) c.in-Ok-true.field-0-test)
+
+pub returns-in-Err-last-clause-any_moment : goal.returns-in-Err-last-clause-any_moment
+returns-in-Err-last-clause-any_moment g c = λ told.
+    let disk = g.D.Disk in
+    let law = (g.met.D.Disk g.world.𝓛 g.world.𝓜 g.world.𝓡 ((λ s x. x), (λ x. x), (λ x. x), λ x. x)) in
+    let d0 = c.args.disk.now in
+    let d1 = c.open_file.new.disk in
+    kept_read disk.reads disk.call_number disk.images disk.images_since d0 d1 c.last.new.disk (λ k f le left. law.counts_now d1 k f told le left) (c.open_file.ensures.any_moment told) (c.last.ensures.rests told)
+
+pub returns-in-Ok-true-clause-any_moment : goal.returns-in-Ok-true-clause-any_moment
+returns-in-Ok-true-clause-any_moment g c = λ told.
+    let disk = g.D.Disk in
+    let law = (g.met.D.Disk g.world.𝓛 g.world.𝓜 g.world.𝓡 ((λ s x. x), (λ x. x), (λ x. x), λ x. x)) in
+    let d0 = c.args.disk.now in
+    let d1 = c.open_file.new.disk in
+    kept_read disk.reads disk.call_number disk.images disk.images_since d0 d1 c.last.new.disk (λ k f le left. law.counts_now d1 k f told le left) (c.open_file.ensures.any_moment told) (c.last.ensures.rests told)
+
+pub returns-in-Ok-false-clause-any_moment : goal.returns-in-Ok-false-clause-any_moment
+returns-in-Ok-false-clause-any_moment g c = λ told.
+    let disk = g.D.Disk in
+    let law = (g.met.D.Disk g.world.𝓛 g.world.𝓜 g.world.𝓡 ((λ s x. x), (λ x. x), (λ x. x), λ x. x)) in
+    let d0 = c.args.disk.now in
+    let d1 = c.open_file.new.disk in
+    kept_read disk.reads disk.call_number disk.images disk.images_since d0 d1 c.last.new.disk (λ k f le left. law.counts_now d1 k f told le left) (c.open_file.ensures.any_moment told) (c.last.ensures.rests told)
+
+pub returns-in-Err-named-clause-any_moment : goal.returns-in-Err-named-clause-any_moment
+returns-in-Err-named-clause-any_moment g c = λ told.
+    let disk = g.D.Disk in
+    let law = (g.met.D.Disk g.world.𝓛 g.world.𝓜 g.world.𝓡 ((λ s x. x), (λ x. x), (λ x. x), λ x. x)) in
+    let d0 = c.args.disk.now in
+    let d1 = c.open_file.new.disk in
+    kept_read disk.reads disk.call_number disk.images disk.images_since d0 d1 c.last.new.disk (λ k f le left. law.counts_now d1 k f told le left) (c.open_file.ensures.any_moment told) (c.last.ensures.rests told)

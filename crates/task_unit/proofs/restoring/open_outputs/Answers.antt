@@ -5,6 +5,7 @@ use Rattle.topic_log.specs.Opened.{is_broken}
 use Rattle.task_unit.specs.Written.{AllSound}
 use Rattle.std.proofs.lemmas.List.{length_push}
 use Rattle.task_unit.proofs.SoFar.{outputs_step, output_refused}
+use Rattle.task_unit.proofs.Reopening.{kept_none, kept_then}
 use Rattle.task_unit.proofs.restoring.open_outputs.Goals as goal
 
 pub returns-in-Err-clause-why : goal.returns-in-Err-clause-why
@@ -15,9 +16,38 @@ returns-in-Err-clause-why g c =
 pub loop-j-preserved : goal.loop-j-preserved
 loop-j-preserved g c =
     let disk = g.D.Disk in
+    let law = (g.met.D.Disk g.world.𝓛 g.world.𝓜 g.world.𝓡 ((λ s x. x), (λ x. x), (λ x. x), λ x. x)) in
     let step = outputs_step disk.tells disk.reads disk.images c.args.disk.now c.loop-j.disk c.open_file.new.disk c.loop-j.j c.loop-j.logs.items c.in-Ok.log c.loop-j.invariant.0 c.in-Ok.ensures.stands c.in-Ok.ensures.elsewhere c.in-Ok.ensures.others in (
-      rw c.in-Ok-put.ensures.ok step,
-      ap length c.in-Ok-put.ensures.ok ∙ length_push c.loop-j.logs.items c.in-Ok.log ∙ ap (λ k. k + 1) c.loop-j.invariant.1,
-      subst (λ (l : List Log). AllSound l) (sym c.in-Ok-put.ensures.ok) (All-push (λ (l : Log). is_broken l ≡ false) c.loop-j.logs.items c.in-Ok.log c.loop-j.invariant.2 c.in-Ok.ensures.sound),
+      rw c.in-Ok-put.ensures step,
+      ap length c.in-Ok-put.ensures ∙ length_push c.loop-j.logs.items c.in-Ok.log ∙ ap (λ k. k + 1) c.loop-j.invariant.1,
+      subst (λ (l : List Log). AllSound l) (sym c.in-Ok-put.ensures) (All-push (λ (l : Log). is_broken l ≡ false) c.loop-j.logs.items c.in-Ok.log c.loop-j.invariant.2 c.in-Ok.ensures.sound),
+      record { kept = λ told. kept_then disk.reads disk.call_number disk.images disk.images_since c.args.disk.now c.loop-j.disk c.open_file.new.disk (λ k f le left. law.counts_now c.loop-j.disk k f told le left) (c.loop-j.invariant.3.kept told) (c.open_file.ensures.any_moment told) },
       search rules,
     )
+
+pub loop-j-init : goal.loop-j-init
+loop-j-init g c =
+    let disk = g.D.Disk in
+    let law = (g.met.D.Disk g.world.𝓛 g.world.𝓜 g.world.𝓡 ((λ s x. x), (λ x. x), (λ x. x), λ x. x)) in (
+      search rules,
+      search rules,
+      search rules,
+      record { kept = λ told. kept_none disk.reads disk.call_number disk.images disk.images_since c.args.disk.now (λ f left. law.only_now c.args.disk.now f told left) },
+      search rules,
+    )
+
+pub returns-in-Err-clause-any_moment : goal.returns-in-Err-clause-any_moment
+returns-in-Err-clause-any_moment g c = λ told.
+    let disk = g.D.Disk in
+    let law = (g.met.D.Disk g.world.𝓛 g.world.𝓜 g.world.𝓡 ((λ s x. x), (λ x. x), (λ x. x), λ x. x)) in
+    kept_then disk.reads disk.call_number disk.images disk.images_since c.args.disk.now c.loop-j.disk c.open_file.new.disk (λ k f le left. law.counts_now c.loop-j.disk k f told le left) (c.loop-j.invariant.3.kept told) (c.open_file.ensures.any_moment told)
+
+pub returns-in-Err-put-clause-any_moment : goal.returns-in-Err-put-clause-any_moment
+returns-in-Err-put-clause-any_moment g c = λ told.
+    let disk = g.D.Disk in
+    let law = (g.met.D.Disk g.world.𝓛 g.world.𝓜 g.world.𝓡 ((λ s x. x), (λ x. x), (λ x. x), λ x. x)) in
+    kept_then disk.reads disk.call_number disk.images disk.images_since c.args.disk.now c.loop-j.disk c.open_file.new.disk (λ k f le left. law.counts_now c.loop-j.disk k f told le left) (c.loop-j.invariant.3.kept told) (c.open_file.ensures.any_moment told)
+
+pub returns-clause-any_moment : goal.returns-clause-any_moment
+returns-clause-any_moment g c = λ told.
+    c.loop-j.invariant.3.kept told

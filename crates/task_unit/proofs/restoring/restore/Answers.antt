@@ -5,6 +5,7 @@ use Rattle.task_unit.specs.Refused.{WhyNoStores, WhyNoOutputs}
 use Rattle.task_unit.specs.Standing.{HoldsStores, HoldsOutputs, SameFrom}
 use Rattle.task_unit.specs.Held.{contents_of}
 use Rattle.task_unit.proofs.Whole.{marked, stores_refused, counts_before, outputs_refused, mark_whole, stores_whole, outputs_whole}
+use Rattle.task_unit.proofs.Reopening.{kept_then}
 use Rattle.task_unit.proofs.restoring.restore.Goals as goal
 
 pub returns-in-Err-open_stores-clause-why : goal.returns-in-Err-open_stores-clause-why
@@ -56,3 +57,30 @@ returns-clause-restored g c = λ told.
       stores_are = stores_whole s r0 r1 r2 i1 i2 c.in-Ok.opened.0 c.in-Ok.opened.1 (length s.stores) c.in-Ok-open_stores.opened.0.items (contents_of c.in-Ok-open_stores.opened.1.items) c.requires.few_stores h same hs behind r3 i3 (length s.outputs) c.in-Ok-open_outputs.outputs.items ho keeps keeps';
       outputs_are = outputs_whole s r0 r1 r2 i1 i2 c.in-Ok.opened.0 c.in-Ok.opened.1 (length s.stores) c.in-Ok-open_stores.opened.0.items (contents_of c.in-Ok-open_stores.opened.1.items) c.requires.few_stores h same hs behind r3 i3 (length s.outputs) c.in-Ok-open_outputs.outputs.items ho keeps keeps';
     }
+
+pub returns-in-Err-open_stores-clause-any_moment : goal.returns-in-Err-open_stores-clause-any_moment
+returns-in-Err-open_stores-clause-any_moment g c = λ told.
+    let disk = g.D.Disk in
+    let law = (g.met.D.Disk g.world.𝓛 g.world.𝓜 g.world.𝓡 ((λ s x. x), (λ x. x), (λ x. x), λ x. x)) in
+    let d0 = c.args.disk.now in
+    let d1 = c.open_marks.new.disk in
+    let d2 = c.open_stores.new.disk in
+    kept_then disk.reads disk.call_number disk.images disk.images_since d0 d1 d2 (λ k f le left. law.counts_now d1 k f told le left) (c.open_marks.ensures.any_moment told) (c.open_stores.ensures.any_moment told)
+
+pub returns-in-Err-open_outputs-clause-any_moment : goal.returns-in-Err-open_outputs-clause-any_moment
+returns-in-Err-open_outputs-clause-any_moment g c = λ told.
+    let disk = g.D.Disk in
+    let law = (g.met.D.Disk g.world.𝓛 g.world.𝓜 g.world.𝓡 ((λ s x. x), (λ x. x), (λ x. x), λ x. x)) in
+    let d0 = c.args.disk.now in
+    let d1 = c.open_marks.new.disk in
+    let d2 = c.open_stores.new.disk in
+    kept_then disk.reads disk.call_number disk.images disk.images_since d0 d2 c.open_outputs.new.disk (λ k f le left. law.counts_now d2 k f told le left) (kept_then disk.reads disk.call_number disk.images disk.images_since d0 d1 d2 (λ k f le left. law.counts_now d1 k f told le left) (c.open_marks.ensures.any_moment told) (c.open_stores.ensures.any_moment told)) (c.open_outputs.ensures.any_moment told)
+
+pub returns-clause-any_moment : goal.returns-clause-any_moment
+returns-clause-any_moment g c = λ told.
+    let disk = g.D.Disk in
+    let law = (g.met.D.Disk g.world.𝓛 g.world.𝓜 g.world.𝓡 ((λ s x. x), (λ x. x), (λ x. x), λ x. x)) in
+    let d0 = c.args.disk.now in
+    let d1 = c.open_marks.new.disk in
+    let d2 = c.open_stores.new.disk in
+    kept_then disk.reads disk.call_number disk.images disk.images_since d0 d2 c.open_outputs.new.disk (λ k f le left. law.counts_now d2 k f told le left) (kept_then disk.reads disk.call_number disk.images disk.images_since d0 d1 d2 (λ k f le left. law.counts_now d1 k f told le left) (c.open_marks.ensures.any_moment told) (c.open_stores.ensures.any_moment told)) (c.open_outputs.ensures.any_moment told)

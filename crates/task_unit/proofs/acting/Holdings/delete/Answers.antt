@@ -1,7 +1,8 @@
 use Rattle.std.proofs.Common.{◌∙◌, ap, None, sym, subst}
-use Rattle.task_unit.specs.Acting.{held, KeepsClean}
+use Rattle.task_unit.specs.Acting.{held, dirty_at, KeepsClean}
 use Rattle.task_unit.specs.Held.{Held, state_of}
 use Rattle.task_unit.proofs.Made.{deleted, delete_noted, stored_clean}
+use Rattle.task_unit.proofs.Touching.{stored_dirty}
 use Rattle.task_unit.proofs.acting.Holdings.delete.Goals as goal
 
 pub returns-in-Ok-clause-answered : goal.returns-in-Ok-clause-answered
@@ -14,3 +15,6 @@ pub returns-in-Ok-clause-clean : goal.returns-in-Ok-clause-clean
 returns-in-Ok-clause-clean c =
     let old = held c.args.self.now in
     subst (λ (x : Held). KeepsClean old x) (sym c.in-Ok.ensures.held.1) (stored_clean old c.args.store c.args.key None c.requires.store)
+
+pub returns-in-Ok-clause-touched : goal.returns-in-Ok-clause-touched
+returns-in-Ok-clause-touched c = λ i. ap (λ (h : Held). dirty_at h i) c.in-Ok.ensures.held.1 ∙ stored_dirty (held c.args.self.now) c.args.store c.args.key None c.requires.store i

@@ -3,6 +3,7 @@ use Rattle.samza_model.specs.Content.{changed}
 use Rattle.task_unit.specs.Acting.{held}
 use Rattle.task_unit.specs.Held.{state_of}
 use Rattle.task_unit.proofs.Made.{always, get_unchanged, next_unchanged, IsAside, aside_noted, aside_unchanged}
+use Rattle.task_unit.proofs.Touching.{aside_touches}
 use Rattle.task_unit.proofs.acting.Holdings.make.Goals as goal
 use Rattle.task_unit.proofs.acting.Holdings.make.Goals.{In-AskCommit}
 
@@ -34,3 +35,6 @@ returns-in-AskCommit-clause-answered c = aside_noted (state_of (held c.args.self
 
 pub returns-in-AskCommit-clause-made : goal.returns-in-AskCommit-clause-made
 returns-in-AskCommit-clause-made c = aside_unchanged (state_of (held c.args.self.now)) c.args.act (aside c)
+
+pub returns-in-AskCommit-clause-touched : goal.returns-in-AskCommit-clause-touched
+returns-in-AskCommit-clause-touched c = aside_touches (held c.args.self.now) c.args.act (aside c)

@@ -1,8 +1,17 @@
-use Rattle.std.proofs.Common.{◌∙◌, refl, subst}
+use Rattle.std.proofs.Common.{◌<◌, ◌∙◌, ap, inl, length, refl, sym, subst}
 use Rattle.task_unit.specs.Acting.{held, IsSized}
 use Rattle.task_unit.specs.Held.{Held, state_of}
-use Rattle.task_unit.specs.Units.{IsCommitted}
-use Rattle.task_unit.proofs.Committed.{stand_open, stands_made, restores_made, sends_made}
+use Rattle.task_unit.specs.Crashes.{WriteLeaves}
+use Rattle.task_unit.specs.Units.{IsCommitted, CommitLeaves}
+use Rattle.samza_model.specs.Files.{Image}
+use Rattle.samza_model.specs.Restored.{Restores}
+use Rattle.disk_model.specs.Images.{LeavesOnly}
+use Rattle.disk_model.proofs.Moments.{started, weaker}
+use Rattle.task_unit.proofs.Committed.{stand_open, stands_made}
+use Rattle.task_unit.proofs.Survived.{unwritten_restores, task_grows, stand_with, plan_of, all_restores, write_restores, written_has}
+use Rattle.task_unit.specs.Growth.{PassesLimit}
+use Rattle.task_unit.proofs.Growing.{passes_limit, within_limit}
+use Rattle.task_unit.proofs.Flushed.{none_unlogged}
 use Rattle.task_unit.proofs.units.OneUnit.commit.Goals as goal
 
 pub write-requires-clause-open : goal.write-requires-clause-open
@@ -16,9 +25,11 @@ invariant_of-self-2 g c =
     let u = c.self.inside in
     let inv = c.self.invariant in
     let disk = g.D.Disk in
-    let plan = c.in-Ok.planned.0 in
-    let made = c.in-Ok.planned.1 in
-    let w = c.in-Ok-write.ensures in
+    let plan = c.in_ok-plan.plan in
+    let made = c.in_ok-plan.made in
+    let p = c.in_ok-plan.ensures in
+    let room = c.has_room.ensures.room c.if-not-has_room.false in
+    let w = c.in-Ok.ensures in
     let held' : Held = record { stores = c.flush_all.new.stores.items; unsent = c.clear_all.new.unsent.items } in
     let sized' : IsSized u.setup held' = record { stores = c.flush_all.ensures.as_many ∙ inv.sized.stores; outputs = c.clear_all.ensures.as_many ∙ inv.sized.outputs } in
     record {
@@ -31,24 +42,164 @@ invariant_of-self-2 g c =
       within = inv.within;
       sound = λ _. w.sound;
       stands = λ _ told. stands_made u.setup (disk.reads u.disk) (disk.reads c.write.new.disk) (disk.images u.disk) (disk.images c.write.new.disk) u.logs c.write.new.self plan u.mark made (held u.holdings)
-          (inv.stands c.if-self.false told) (w.follows told) c.in-Ok.ensures.stores c.in-Ok.ensures.sends c.in-Ok.ensures.frame c.in-Ok.ensures.named c.in-Ok.ensures.id inv.changelogs_are inv.outputs_are w.outputs inv.sized
+          (inv.stands c.if-self.false told) (w.follows told) room p.stores p.sends p.frame p.named p.id inv.changelogs_are inv.outputs_are w.outputs inv.sized
           held' sized' c.flush_all.ensures.contents;
     }
+
+pub returns-clause-durable : goal.returns-clause-durable
+returns-clause-durable g c = λ told.
+    let u = c.self.inside in
+    let inv = c.self.invariant in
+    let disk = g.D.Disk in
+    let plan = c.in_ok-plan.plan in
+    let made = c.in_ok-plan.made in
+    let p = c.in_ok-plan.ensures in
+    let room = c.has_room.ensures.room c.if-not-has_room.false in
+    let reads = disk.reads u.disk in
+    let images = disk.images u.disk in
+    let h = held u.holdings in
+    let grows = task_grows u.setup reads images u.logs plan u.mark made h (inv.stands c.if-self.false told) room p.stores p.sends p.frame p.id inv.changelogs_are inv.outputs_are inv.sized in
+    let w = c.in-Ok.ensures in
+    let made_in = λ (f : Image) (now : disk.images c.write.new.disk f).
+    all_restores u.setup reads images u.logs plan u.mark made h grows.0 grows.1 grows.2 inv.changelogs_are inv.outputs_are f u.next inv.sized p.named p.next
+    (written_has u.setup reads images u.logs plan u.mark made h grows.0 grows.1 grows.2 inv.changelogs_are inv.outputs_are (disk.reads c.write.new.disk) (disk.images c.write.new.disk) c.write.new.self (w.follows told) f now) in
+    (made, refl, λ f now. subst (λ v. IsCommitted v.setup (disk.reads v.disk) f v.mark v.next v.state made) c.self.view_is (made_in f now))
 
 pub returns-clause-committed : goal.returns-clause-committed
 returns-clause-committed g c = λ told.
     let u = c.self.inside in
     let inv = c.self.invariant in
     let disk = g.D.Disk in
-    let plan = c.in-Ok.planned.0 in
-    let made = c.in-Ok.planned.1 in
-    let w = c.in-Ok-write.ensures in
-    let here : IsCommitted u.setup (disk.reads u.disk) (disk.reads c.write.new.disk) u.mark u.next (state_of (held u.holdings)) made = record {
-      id_is = c.in-Ok.ensures.id;
-      next_is = c.in-Ok.ensures.next;
-      restores = restores_made u.setup (disk.reads u.disk) (disk.reads c.write.new.disk) (disk.images u.disk) (disk.images c.write.new.disk) u.logs c.write.new.self plan u.mark made (held u.holdings)
-          (inv.stands c.if-self.false told) (w.follows told) c.in-Ok.ensures.stores c.in-Ok.ensures.sends c.in-Ok.ensures.frame c.in-Ok.ensures.named c.in-Ok.ensures.id inv.changelogs_are inv.outputs_are w.outputs inv.sized;
-      sends = sends_made u.setup (disk.reads u.disk) (disk.reads c.write.new.disk) (disk.images u.disk) (disk.images c.write.new.disk) u.logs c.write.new.self plan u.mark made (held u.holdings)
-          (inv.stands c.if-self.false told) (w.follows told) c.in-Ok.ensures.stores c.in-Ok.ensures.sends c.in-Ok.ensures.frame c.in-Ok.ensures.named c.in-Ok.ensures.id inv.changelogs_are inv.outputs_are w.outputs inv.sized;
-    } in
-    (made, refl, subst (λ v. IsCommitted v.setup (disk.reads v.disk) (disk.reads c.write.new.disk) v.mark v.next v.state made) c.self.view_is here)
+    let plan = c.in_ok-plan.plan in
+    let made = c.in_ok-plan.made in
+    let p = c.in_ok-plan.ensures in
+    let room = c.has_room.ensures.room c.if-not-has_room.false in
+    let reads = disk.reads u.disk in
+    let images = disk.images u.disk in
+    let h = held u.holdings in
+    let grows = task_grows u.setup reads images u.logs plan u.mark made h (inv.stands c.if-self.false told) room p.stores p.sends p.frame p.id inv.changelogs_are inv.outputs_are inv.sized in
+    let w = c.in-Ok.ensures in
+    let made_in = λ (f : Image) (now : disk.images c.write.new.disk f).
+    all_restores u.setup reads images u.logs plan u.mark made h grows.0 grows.1 grows.2 inv.changelogs_are inv.outputs_are f u.next inv.sized p.named p.next
+    (written_has u.setup reads images u.logs plan u.mark made h grows.0 grows.1 grows.2 inv.changelogs_are inv.outputs_are (disk.reads c.write.new.disk) (disk.images c.write.new.disk) c.write.new.self (w.follows told) f now) in
+    let law = (g.met.D.Disk g.world.𝓛 g.world.𝓜 g.world.𝓡 ((λ s x. x), (λ x. x), (λ x. x), λ x. x)) in
+    (made, refl, subst (λ v. IsCommitted v.setup (disk.reads v.disk) (disk.reads c.write.new.disk) v.mark v.next v.state made) c.self.view_is (made_in (disk.reads c.write.new.disk) (law.read_is_image c.write.new.disk told)))
+
+pub returns-clause-flushed : goal.returns-clause-flushed
+returns-clause-flushed g c = λ i lt.
+    let stores = c.flush_all.new.stores.items in
+    let inside : i < length stores = subst (λ n. i < n) (sym (c.flush_all.ensures.as_many ∙ c.self.invariant.sized.stores ∙ ap (λ v. length v.setup.stores) c.self.view_is)) lt in
+    none_unlogged stores i inside (c.flush_all.ensures.clean i inside)
+
+pub returns-then-not-has_room-clause-limit : goal.returns-then-not-has_room-clause-limit
+returns-then-not-has_room-clause-limit g c = λ is told.
+    let u = c.self.inside in
+    let inv = c.self.invariant in
+    let disk = g.D.Disk in
+    let plan = c.in_ok-plan.plan in
+    let made = c.in_ok-plan.made in
+    let p = c.in_ok-plan.ensures in
+    subst (λ v. PassesLimit v.setup (disk.reads v.disk) v.unlogged v.state.sent) c.self.view_is
+    (passes_limit u.setup (disk.reads u.disk) (disk.images u.disk) u.logs plan u.mark made (held u.holdings) (inv.stands c.if-self.false told) p.stores p.sends p.frame p.named inv.changelogs_are inv.outputs_are inv.sized (c.has_room.ensures.none c.if-not-has_room.true))
+
+pub returns-clause-room : goal.returns-clause-room
+returns-clause-room g c = λ told passes.
+    let u = c.self.inside in
+    let inv = c.self.invariant in
+    let disk = g.D.Disk in
+    let plan = c.in_ok-plan.plan in
+    let made = c.in_ok-plan.made in
+    let p = c.in_ok-plan.ensures in
+    within_limit u.setup (disk.reads u.disk) (disk.images u.disk) u.logs plan u.mark made (held u.holdings) (inv.stands c.if-self.false told) p.stores p.sends p.frame p.named inv.changelogs_are inv.outputs_are inv.sized (c.has_room.ensures.room c.if-not-has_room.false)
+    (subst (λ v. PassesLimit v.setup (disk.reads v.disk) v.unlogged v.state.sent) (sym c.self.view_is) passes)
+
+pub returns-in-Err-clause-tested : goal.returns-in-Err-clause-tested
+returns-in-Err-clause-tested g c = λ _ told passes.
+    let u = c.self.inside in
+    let inv = c.self.invariant in
+    let disk = g.D.Disk in
+    let plan = c.in_ok-plan.plan in
+    let made = c.in_ok-plan.made in
+    let p = c.in_ok-plan.ensures in
+    within_limit u.setup (disk.reads u.disk) (disk.images u.disk) u.logs plan u.mark made (held u.holdings) (inv.stands c.if-self.false told) p.stores p.sends p.frame p.named inv.changelogs_are inv.outputs_are inv.sized (c.has_room.ensures.room c.if-not-has_room.false)
+    (subst (λ v. PassesLimit v.setup (disk.reads v.disk) v.unlogged v.state.sent) (sym c.self.view_is) passes)
+
+pub returns-clause-any_moment : goal.returns-clause-any_moment
+returns-clause-any_moment g c = λ told sound contents old.
+    let u = c.self.inside in
+    let inv = c.self.invariant in
+    let disk = g.D.Disk in
+    let plan = c.in_ok-plan.plan in
+    let made = c.in_ok-plan.made in
+    let p = c.in_ok-plan.ensures in
+    let room = c.has_room.ensures.room c.if-not-has_room.false in
+    let reads = disk.reads u.disk in
+    let images = disk.images u.disk in
+    let h = held u.holdings in
+    let grows = task_grows u.setup reads images u.logs plan u.mark made h (inv.stands c.if-self.false told) room p.stores p.sends p.frame p.id inv.changelogs_are inv.outputs_are inv.sized in
+    let n = length u.logs.changelogs.items in
+    let m = length u.logs.outputs.items in
+    subst (λ v. LeavesOnly disk.call_number disk.images disk.images_since v.disk c.write.new.disk (λ _ f. CommitLeaves v.setup (disk.reads v.disk) f v.mark contents v.next v.state)) c.self.view_is
+    (weaker disk.call_number disk.images disk.images_since u.disk c.write.new.disk (WriteLeaves n m grows.0 grows.1) (λ _ f. CommitLeaves u.setup reads f u.mark contents u.next (state_of h))
+    (c.write.ensures.any_moment told grows.0 grows.1
+    (stand_with u.setup reads images u.logs plan u.mark made h grows.0 grows.1 grows.2 inv.changelogs_are inv.outputs_are)
+    (plan_of u.setup reads images u.logs plan u.mark made h grows.0 grows.1 grows.2 inv.changelogs_are inv.outputs_are))
+    (λ a f now step. write_restores u.setup reads images u.logs plan u.mark made h grows.0 grows.1 grows.2 inv.changelogs_are inv.outputs_are a f contents u.next inv.sized p.named p.next
+    (subst (λ v. Restores v.setup (disk.reads v.disk) v.mark contents) (sym c.self.view_is) old) step))
+
+pub returns-in-Err-clause-any_moment : goal.returns-in-Err-clause-any_moment
+returns-in-Err-clause-any_moment g c = λ told sound contents old.
+    let u = c.self.inside in
+    let inv = c.self.invariant in
+    let disk = g.D.Disk in
+    let plan = c.in_ok-plan.plan in
+    let made = c.in_ok-plan.made in
+    let p = c.in_ok-plan.ensures in
+    let room = c.has_room.ensures.room c.if-not-has_room.false in
+    let reads = disk.reads u.disk in
+    let images = disk.images u.disk in
+    let h = held u.holdings in
+    let grows = task_grows u.setup reads images u.logs plan u.mark made h (inv.stands c.if-self.false told) room p.stores p.sends p.frame p.id inv.changelogs_are inv.outputs_are inv.sized in
+    let n = length u.logs.changelogs.items in
+    let m = length u.logs.outputs.items in
+    subst (λ v. LeavesOnly disk.call_number disk.images disk.images_since v.disk c.write.new.disk (λ _ f. CommitLeaves v.setup (disk.reads v.disk) f v.mark contents v.next v.state)) c.self.view_is
+    (weaker disk.call_number disk.images disk.images_since u.disk c.write.new.disk (WriteLeaves n m grows.0 grows.1) (λ _ f. CommitLeaves u.setup reads f u.mark contents u.next (state_of h))
+    (c.write.ensures.any_moment told grows.0 grows.1
+    (stand_with u.setup reads images u.logs plan u.mark made h grows.0 grows.1 grows.2 inv.changelogs_are inv.outputs_are)
+    (plan_of u.setup reads images u.logs plan u.mark made h grows.0 grows.1 grows.2 inv.changelogs_are inv.outputs_are))
+    (λ a f now step. write_restores u.setup reads images u.logs plan u.mark made h grows.0 grows.1 grows.2 inv.changelogs_are inv.outputs_are a f contents u.next inv.sized p.named p.next
+    (subst (λ v. Restores v.setup (disk.reads v.disk) v.mark contents) (sym c.self.view_is) old) step))
+
+pub returns-in_err-plan-clause-any_moment : goal.returns-in_err-plan-clause-any_moment
+returns-in_err-plan-clause-any_moment g c = λ told sound contents old.
+    let u = c.self.inside in
+    let inv = c.self.invariant in
+    let disk = g.D.Disk in
+    let law = (g.met.D.Disk g.world.𝓛 g.world.𝓜 g.world.𝓡 ((λ s x. x), (λ x. x), (λ x. x), λ x. x)) in
+    let reads = disk.reads u.disk in
+    let h = held u.holdings in
+    subst (λ v. LeavesOnly disk.call_number disk.images disk.images_since v.disk v.disk (λ _ f. CommitLeaves v.setup (disk.reads v.disk) f v.mark contents v.next v.state)) c.self.view_is
+    (started disk.call_number disk.images disk.images_since u.disk (λ _ f. CommitLeaves u.setup reads f u.mark contents u.next (state_of h)) (λ f left. law.only_now u.disk f told left)
+    (λ f now. (
+      f,
+      now,
+      inl (unwritten_restores u.setup reads (disk.images u.disk) u.logs u.mark h (inv.stands c.if-self.false told) inv.outputs_are contents
+          (subst (λ v. Restores v.setup (disk.reads v.disk) v.mark contents) (sym c.self.view_is) old) f now),
+    )))
+
+pub returns-then-not-has_room-clause-any_moment : goal.returns-then-not-has_room-clause-any_moment
+returns-then-not-has_room-clause-any_moment g c = λ told sound contents old.
+    let u = c.self.inside in
+    let inv = c.self.invariant in
+    let disk = g.D.Disk in
+    let law = (g.met.D.Disk g.world.𝓛 g.world.𝓜 g.world.𝓡 ((λ s x. x), (λ x. x), (λ x. x), λ x. x)) in
+    let reads = disk.reads u.disk in
+    let h = held u.holdings in
+    subst (λ v. LeavesOnly disk.call_number disk.images disk.images_since v.disk v.disk (λ _ f. CommitLeaves v.setup (disk.reads v.disk) f v.mark contents v.next v.state)) c.self.view_is
+    (started disk.call_number disk.images disk.images_since u.disk (λ _ f. CommitLeaves u.setup reads f u.mark contents u.next (state_of h)) (λ f left. law.only_now u.disk f told left)
+    (λ f now. (
+      f,
+      now,
+      inl (unwritten_restores u.setup reads (disk.images u.disk) u.logs u.mark h (inv.stands c.if-self.false told) inv.outputs_are contents
+          (subst (λ v. Restores v.setup (disk.reads v.disk) v.mark contents) (sym c.self.view_is) old) f now),
+    )))

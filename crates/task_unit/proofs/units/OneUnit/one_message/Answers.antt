@@ -1,5 +1,12 @@
-use Rattle.std.proofs.Common.{◌<◌, length, subst, arith, IfSome}
-use Rattle.task_unit.specs.Acting.{held}
+use Rattle.std.proofs.Common.{◌≡◌, ◌+◌, ◌<◌, ◌∙◌, List, length, refl, sym, ap, subst, arith, None, Ok, IfSome}
+use Rattle.samza_model.specs.declared.messages.Record.{Record}
+use Rattle.samza_model.specs.Meaning.{Meaning}
+use Rattle.samza_model.specs.Runs.{runs}
+use Rattle.task_unit.specs.Acting.{held, AreTouched}
+use Rattle.task_unit.specs.Held.{Held, state_of, unlogged_of}
+use Rattle.task_unit.specs.Touched.{acts_of}
+use Rattle.task_unit.specs.Units.{IsMessage, IsProcessed}
+use Rattle.task_unit.proofs.Touching.{unlogged_behind}
 use Rattle.task_unit.proofs.Begun.{stands_kept}
 use Rattle.task_unit.proofs.units.OneUnit.one_message.Goals as goal
 
@@ -20,3 +27,24 @@ invariant_of-self g c =
       sound = inv.sound;
       stands = λ b told. stands_kept (disk.reads u.disk) (disk.images u.disk) u.setup u.logs u.mark (held u.holdings) (held c.process.new.self) (inv.stands b told) c.in-Ok-None.ensures.clean;
     }
+
+pub returns-in-Ok-None-clause-processed : goal.returns-in-Ok-None-clause-processed
+returns-in-Ok-None-clause-processed g c = λ _.
+    let u = c.self.inside in
+    let old : Held = held u.holdings in
+    let new : Held = held c.process.new.self in
+    let job : Meaning = g.J.Job.meaning (g.J.Job.plain u.job.now) in
+    let message = c.in-Some.envelope in
+    let touched : AreTouched old new (acts_of job u.setup message (state_of old)) = c.in-Ok-None.ensures.touched (ap Ok c.in-Ok-None.field-0-is) in
+    let done : (runs job u.setup message (state_of old)).state ≡ state_of new = c.in-Ok-None.ensures.done (ap Ok c.in-Ok-None.field-0-is) in
+    let ended : (runs job u.setup message (state_of old)).end ≡ None = c.in-Ok-None.ensures.ended ∙ c.in-Ok-None.field-0-is in
+    let next : IsMessage u.setup u.messages.items u.next message = subst (λ (ms : List Record). IsMessage u.setup ms u.next message) c.as_slice.ensures.value (c.envelope_at.ensures.some message (c.in_ok-envelope.was ∙ ap Ok c.in-Some.is)) in
+    let here : IsProcessed job u.setup u.messages.items u.next (state_of old) (unlogged_of old.stores) (u.next + 1) (state_of new) (unlogged_of new.stores) = record {
+      message = message;
+      is_next = next;
+      ended = ended;
+      state_is = done;
+      unlogged_is = λ i lt. unlogged_behind old new (acts_of job u.setup message (state_of old)) touched (c.in-Ok-None.ensures.sized.stores ∙ sym c.self.invariant.sized.stores) i (subst (λ n. i < n) (sym c.self.invariant.sized.stores) lt);
+      next_is = refl;
+    } in
+    subst (λ v. IsProcessed (g.J.Job.meaning v.job) v.setup v.messages v.next v.state v.unlogged (u.next + 1) (state_of new) (unlogged_of new.stores)) c.self.view_is here

@@ -1,0 +1,164 @@
+-- What a task's files restore to is one, and where a task can be opened there is no cause not to open it.
+use Rattle.std.proofs.Common.{ℕ, ◌≡◌, ◌≢◌, ◌<◌, List, [], ◌∷◌, ◌++◌, length, take, Option, Some, None, inl, inr, if◌then◌else◌, refl, sym, subst, ap, ◌∙◌, arith, length-append}
+use Rattle.std.proofs.lemmas.List.{ext_get_or, same_from_push}
+use Rattle.samza_model.specs.declared.messages.Record.{Record}
+use Rattle.samza_model.specs.declared.setups.Setup.{Setup}
+use Rattle.samza_model.specs.declared.checkpoints.Checkpoint.{Checkpoint}
+use Rattle.samza_model.specs.Checkpoint.{Spells}
+use Rattle.samza_model.specs.Content.{Content, nothing_stored, foldrec, store_at}
+use Rattle.samza_model.specs.Files.{Image, checkpoint_file, changelog_file, output_file}
+use Rattle.samza_model.specs.Logs.{joined, HasFrames, HasLog, HasNoLog}
+use Rattle.samza_model.specs.Partition.{Partition}
+use Rattle.samza_model.specs.Restored.{count_at, next_at, start_of, fallback_start, EndsWith, HasMark, HoldsContent, IsMarked, IsNamed, Restores}
+use Rattle.topic_log.proofs.Spelling.{frames_unique, log_unique}
+use Rattle.checkpoint_log.proofs.Again.{spells_one}
+use Rattle.checkpoint_log.specs.Ends.{IsBadEnd}
+use Rattle.task_unit.specs.declared.faults.OpenFault.{OpenFault}
+use Rattle.task_unit.specs.declared.faults.OpenFault.TheVariants.{Device, Damaged, Shape, Ahead, Tail, Limit, NoMemory}
+use Rattle.task_unit.specs.Opens.{Opens}
+use Rattle.task_unit.specs.Refused.{CountsHold, HasChanges, OutputsRefused, StoresRefused, WhyNoFile, WhyNoInput, WhyNoMark, WhyNoStore, WhyRefused}
+use Rattle.task_unit.specs.Units.{IsPastEnd, WhyNotOpened, input_of}
+
+-- frames end with one checkpoint
+ends_one : (frames : List (List Record)) (a b : Checkpoint) → EndsWith frames a → EndsWith frames b → a ≡ b
+ends_one frames a b p q =
+    let frame : p.last ∷ [] ≡ q.last ∷ [] = (same_from_push p.before q.before (p.last ∷ []) (q.last ∷ []) (sym p.split ∙ q.split)).1 in
+    let same : p.last ≡ q.last = cc frame in
+    spells_one a b p.last p.spells (subst (λ (r : Record). Spells b r) (sym same) q.spells)
+
+none_ends : (frames before : List (List Record)) (last : List Record) → frames ≡ [] → frames ≡ before ++ last ∷ [] → ⊥
+none_ends frames before last none split = absurd (omega (arith, ap length none, ap length split, length-append before (last ∷ [])))
+
+mark_one : (s : Setup) (frames : List (List Record)) (m m' : Option Checkpoint) → HasMark s frames m → HasMark s frames m' → m ≡ m'
+mark_one s frames None None p q = refl
+mark_one s frames None (Some k) p q = absurd (none_ends frames q.0.before (q.0.last ∷ []) p q.0.split)
+mark_one s frames (Some k) None p q = absurd (none_ends frames p.0.before (p.0.last ∷ []) q p.0.split)
+mark_one s frames (Some k) (Some k') p q = ap (λ (x : Checkpoint). Some x) (ends_one frames k k' p.0 q.0)
+
+-- an image has one checkpoint
+pub marked_one : (s : Setup) (image : Image) (m m' : Option Checkpoint) → IsMarked s image m → IsMarked s image m' → m ≡ m'
+marked_one s image m m' p q =
+    let same : p.frames ≡ q.frames = frames_unique (image checkpoint_file) p.frames q.frames p.has q.has in
+    mark_one s q.frames m m' (subst (λ (fs : List (List Record)). HasMark s fs m) same p.mark_is) q.mark_is
+
+content_one : (bytes : List ℕ) (n : ℕ) (c c' : Content) → HoldsContent bytes n c → HoldsContent bytes n c' → c ≡ c'
+content_one bytes n c c' p q = p.content_is ∙ ap (λ (rs : List Record). foldrec (take n rs)) (log_unique bytes p.changes q.changes p.has q.has) ∙ sym q.content_is
+
+-- and restores to one checkpoint and to one content of each store
+pub restores_one : (s : Setup) (image : Image) (m m' : Option Checkpoint) (c c' : List Content) → Restores s image m c → Restores s image m' c' → (m ≡ m') × (c ≡ c')
+restores_one s image m m' c c' p q =
+    let same : m ≡ m' = marked_one s image m m' p.marked q.marked in (
+      same,
+      ext_get_or nothing_stored c c' (p.as_many ∙ sym q.as_many) (λ i lt.
+          let within : i < length s.stores = omega (arith, lt, p.as_many) in
+          content_one (image (changelog_file i)) (count_at m' i) (store_at c i) (store_at c' i)
+          (subst (λ (k : Option Checkpoint). HoldsContent (image (changelog_file i)) (count_at k i) (store_at c i)) same (p.each_store i within))
+          (q.each_store i within)),
+    )
+
+not_bad : (s : Setup) (frames : List (List Record)) (at : ℕ) (m : Option Checkpoint) → HasMark s frames m → IsBadEnd frames at → ⊥
+not_bad s frames at None none bad = none_ends frames bad.before bad.last none bad.split
+not_bad s frames at (Some k) is bad = bad.bad k is.0
+
+not_other : (s : Setup) (frames : List (List Record)) (m : Option Checkpoint) (k : Checkpoint) → HasMark s frames m → EndsWith frames k → (IsNamed s k → ⊥) → ⊥
+not_other s frames None k none ends other = none_ends frames ends.before (ends.last ∷ []) none ends.split
+not_other s frames (Some k') k is ends other = other (subst (λ (c : Checkpoint). IsNamed s c) (ends_one frames k' k is.0 ends) is.1)
+
+-- two numbers of one changelog's records are one
+changes_one : (image : Image) (store a b : ℕ) → HasChanges image store a → HasChanges image store b → a ≡ b
+changes_one image store a b p q =
+    p.held_is ∙ ap (λ (fs : List (List Record)). length (joined fs)) (frames_unique (image (changelog_file store)) p.frames q.frames p.has q.has) ∙ sym q.held_is
+
+-- a log that is there is no log that isn't
+log_is : (image : Image) (file f : ℕ) → (f ≡ file) → HasNoLog (image f) → (rs : List Record) → HasLog (image file) rs → ⊥
+log_is image file f same none rs log = none log.frames (subst (λ (n : ℕ). HasFrames (image n) log.frames) (sym same) log.has)
+
+module _ (s : Setup) (image : Image) (m : Option Checkpoint) (marked : IsMarked s image m) where
+  marked_at : (frames : List (List Record)) → HasFrames (image checkpoint_file) frames → HasMark s frames m
+  marked_at frames has = subst (λ (fs : List (List Record)). HasMark s fs m) (frames_unique (image checkpoint_file) marked.frames frames marked.has has) marked.mark_is
+
+  has_mark : (e : OpenFault) → e ≢ Device → e ≢ NoMemory → WhyNoMark s image e → ⊥
+  has_mark Device device memory why = device refl
+  has_mark (Damaged None file at) device memory why =
+      elim why.1 [
+        | inl none ↦ none marked.frames marked.has
+        | inr bad ↦ not_bad s bad.frames at m (marked_at bad.frames bad.has) bad.bad
+      ]
+  has_mark (Damaged (Some i) file at) device memory why = why
+  has_mark Shape device memory why = not_other s why.frames m why.mark (marked_at why.frames why.has) why.ends why.other
+  has_mark (Ahead i store wanted held) device memory why = why
+  has_mark (Tail store wanted held) device memory why = why
+  has_mark Limit device memory why = why
+  has_mark NoMemory device memory why = memory refl
+
+has_store : (image : Image) (store count : ℕ) (content : Content) (e : OpenFault) → e ≢ Device → e ≢ NoMemory
+    → HoldsContent (image (changelog_file store)) count content → HasChanges image store count → WhyNoStore image store count e → ⊥
+has_store image store count content Device device memory holds counted why = device refl
+has_store image store count content (Damaged None file at) device memory holds counted why = log_is image (changelog_file store) file why.0 why.1 holds.changes holds.has
+has_store image store count content (Damaged (Some i) file at) device memory holds counted why = why
+has_store image store count content Shape device memory holds counted why = why
+has_store image store count content (Ahead None None wanted held) device memory holds counted why = why
+has_store image store count content (Ahead None (Some n) wanted held) device memory holds counted why =
+    absurd (omega (arith, changes_one image store held count why.2 counted, why.1, why.3))
+has_store image store count content (Ahead (Some i) n wanted held) device memory holds counted why = why
+has_store image store count content (Tail n wanted held) device memory holds counted why =
+    absurd (omega (arith, changes_one image store held count why.2 counted, why.1, why.3))
+has_store image store count content Limit device memory holds counted why = why
+has_store image store count content NoMemory device memory holds counted why = memory refl
+
+has_file : (image : Image) (file : ℕ) (records : List Record) (e : OpenFault) → e ≢ Device → e ≢ NoMemory → HasLog (image file) records → WhyNoFile image file e → ⊥
+has_file image file records Device device memory has why = device refl
+has_file image file records (Damaged None f at) device memory has why = why.1 has.frames has.has
+has_file image file records (Damaged (Some i) f at) device memory has why = why
+has_file image file records Shape device memory has why = why
+has_file image file records (Ahead i n wanted held) device memory has why = why
+has_file image file records (Tail n wanted held) device memory has why = why
+has_file image file records Limit device memory has why = why
+has_file image file records NoMemory device memory has why = memory refl
+
+module _ (s : Setup) (image : Image) (m : Option Checkpoint) (stores : List Content) (restored : Restores s image m stores) (counts : CountsHold image m (length s.stores))
+    (e : OpenFault) (device : e ≢ Device) (memory : e ≢ NoMemory) where
+  has_stores : StoresRefused s image e → ⊥
+  has_stores why =
+      let i = why.why.store in
+      let same : why.mark ≡ m = marked_one s image why.mark m why.marked restored.marked in
+      has_store image i (count_at m i) (store_at stores i) e device memory (restored.each_store i why.why.within) (counts i why.why.within)
+      (subst (λ (k : Option Checkpoint). WhyNoStore image i (count_at k i) e) same why.why.why)
+
+  has_outputs : OutputsRefused s image e → ⊥
+  has_outputs why =
+      let j = why.why.output in
+      let log = restored.each_output j why.why.within in
+      has_file image (output_file j) log.0 e device memory log.1 why.why.why
+
+  -- an image that restores has no cause not to
+  pub not_refused : WhyRefused s image e → ⊥
+  not_refused (inl why) = has_mark s image m restored.marked e device memory why
+  not_refused (inr (inl why)) = has_stores why
+  not_refused (inr (inr why)) = has_outputs why
+
+has_input : (told : Type 0) (bytes : List ℕ) (partition : ℕ) (records : List Record) (e : OpenFault) → told → e ≢ Device → e ≢ NoMemory → HasLog bytes records → WhyNoInput told bytes partition e → ⊥
+has_input told bytes partition records Device tells device memory has why = device refl
+has_input told bytes partition records (Damaged i file at) tells device memory has why = why.2 tells has.frames has.has
+has_input told bytes partition records Shape tells device memory has why = why
+has_input told bytes partition records (Ahead i n wanted held) tells device memory has why = why
+has_input told bytes partition records (Tail n wanted held) tells device memory has why = why
+has_input told bytes partition records Limit tells device memory has why = why
+has_input told bytes partition records NoMemory tells device memory has why = memory refl
+
+not_past : (tells told : Type 0) (s : Setup) (image : Image) (bytes : List ℕ) (e : OpenFault) → tells → told → Opens s image bytes → IsPastEnd tells told s image bytes e → ⊥
+not_past tells told s image bytes e is_told input_told opens past =
+    let p : Partition = record { first = 0; records = opens.messages } in
+    let marks : past.mark ≡ opens.mark = marked_one s image past.mark opens.mark (past.marked is_told) opens.restored.marked in
+    let records : past.records ≡ opens.messages = log_unique bytes past.records opens.messages (past.read input_told) opens.has_messages in
+    let kept : next_at opens.mark 0 ≡ Some past.next = ap (λ (m : Option Checkpoint). next_at m 0) (sym marks) ∙ past.kept in
+    let begins : start_of (next_at opens.mark 0) (input_of s) p ≡ past.next =
+    ap (λ o. start_of o (input_of s) p) kept ∙ ap (λ b. if b then fallback_start (input_of s).fallback p else past.next) past.honoured in
+    absurd (omega (arith, opens.within, begins, past.past, ap length records))
+
+-- a task that can be opened has no cause not to be
+pub not_kept_shut : (tells told : Type 0) (s : Setup) (image : Image) (bytes : List ℕ) (e : OpenFault) → tells → told → e ≢ Device → e ≢ NoMemory → Opens s image bytes
+    → WhyNotOpened tells told s image bytes e → ⊥
+not_kept_shut tells told s image bytes e is_told input_told device memory opens (inl why) = not_refused s image opens.mark opens.stores opens.restored opens.counts e device memory (why is_told)
+not_kept_shut tells told s image bytes e is_told input_told device memory opens (inr (inl why)) = has_input told bytes (input_of s).ssp.partition opens.messages e input_told device memory opens.has_messages why
+not_kept_shut tells told s image bytes e is_told input_told device memory opens (inr (inr why)) = not_past tells told s image bytes e is_told input_told opens why

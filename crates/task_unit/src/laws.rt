@@ -1,0 +1,28 @@
+// Laws of the definitions.
+ghost use Rattle.std.specs.Prelude.{◌≡◌, ◌≢◌, ℕ, List, Option};
+ghost use Rattle.samza_model.specs.declared.checkpoints.Checkpoint.{Checkpoint};
+ghost use Rattle.samza_model.specs.declared.setups.Setup.{Setup};
+ghost use Rattle.samza_model.specs.Content.{Content};
+ghost use Rattle.samza_model.specs.Files.{Image};
+ghost use Rattle.samza_model.specs.Restored.{Restores};
+ghost use Rattle.task_unit.specs.declared.faults.OpenFault.{OpenFault as OpenFaultValue};
+ghost use Rattle.task_unit.specs.Opens.{Opens};
+ghost use Rattle.task_unit.specs.Units.{WhyNotOpened};
+
+use crate::OpenFault;
+use disk_model::{Disk, Shelf};
+
+/// A task's files restore to one checkpoint and to one content of each store.
+pub fn restores_to_one()
+    ensures { (s : Setup) (image : Image) (mark mark' : Option Checkpoint) (stores stores' : List Content) → Restores s image mark stores → Restores s image mark' stores' → (mark ≡ mark') × (stores ≡ stores') }
+{}
+
+/// Where a task can be opened there is no cause not to open it: beside `Device` and `NoMemory` no fault has one.
+pub fn opens_or_says_why()
+    ensures { (s : Setup) (image : Image) (bytes : List ℕ) (e : OpenFaultValue) → Opens s image bytes → e ≢ OpenFault.Device → e ≢ OpenFault.NoMemory → WhyNotOpened (Unit {0}) (Unit {0}) s image bytes e → ⊥ }
+{}
+
+/// The same with the words that `OneUnit::open_one` says of a disk and a shelf that tell their bytes.
+pub fn open_one_opens_or_says_why<D: Disk, S: Shelf>()
+    ensures { D.tells → S.tells → (s : Setup) (image : Image) (bytes : List ℕ) (e : OpenFaultValue) → Opens s image bytes → e ≢ OpenFault.Device → e ≢ OpenFault.NoMemory → WhyNotOpened D.tells S.tells s image bytes e → ⊥ }
+{}
