@@ -1,0 +1,5 @@
+mod Acts
+mod Folded
+mod Marks
+mod Places
+mod Runs

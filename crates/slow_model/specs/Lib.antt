@@ -1,0 +1,7 @@
+pub mod Codes
+pub use Rattle.samza_model.specs.Checkpoint
+pub use Rattle.samza_model.specs.Content
+pub use Rattle.samza_model.specs.Limits
+pub use Rattle.samza_model.specs.Logs
+pub use Rattle.samza_model.specs.Restored
+pub use Rattle.samza_model.specs.Runs

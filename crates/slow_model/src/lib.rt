@@ -1,0 +1,20 @@
+//! Plain, slow programs beside the definitions of the model. The contract of each is the definition itself, so that
+//! worked examples, whose results were found outside, check the definitions, and faster programs can be run against them.
+#![tactic(auto)]
+
+mod ends;
+mod replays;
+mod spellings;
+mod states;
+mod turns;
+
+pub use ends::end_at;
+pub use replays::replay;
+pub use spellings::{spell_checkpoint, spell_log};
+pub use states::PlainState;
+pub use turns::{fold_all, run_one};
+
+#[cfg(test)]
+mod log_tests;
+#[cfg(test)]
+mod tests;
