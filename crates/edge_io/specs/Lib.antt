@@ -1,0 +1,3 @@
+pub mod MemorySink
+pub mod Received
+pub mod StdSink
