@@ -1,0 +1,11 @@
+pub mod Asking
+pub mod Keys
+pub mod Lists
+pub mod Numbers
+pub mod Outcome
+pub mod Parts
+pub mod Spelling
+pub mod Stores
+pub mod Streams
+pub mod Table
+pub mod Values

@@ -1,0 +1,54 @@
+-- What the parts of the reader promise each other.
+use Rattle.std.specs.Prelude.{◌≡◌, ◌<◌, ◌≤◌, ℕ, ◌+◌, List, [], ◌∷◌, length, Option, Some, None, Result, Ok, Err, true, false, cond}
+use Rattle.std.specs.Ordering.{nat_cmp}
+use Rattle.std.specs.Cmp.Lexicographic.{slice_cmp}
+use Rattle.std.specs.BTreeSet.{insert_key}
+use Rattle.job_config.specs.declared.faults.What.TheVariants.{BadName}
+use Rattle.job_config.specs.declared.faults.ConfigFault.{ConfigFault}
+use Rattle.job_config.specs.declared.faults.ConfigFault.TheVariants.{Bad as BadKey, NoMemory as NoRoom}
+use Rattle.job_config.specs.declared.rows.RowFault.{RowFault}
+use Rattle.job_config.specs.declared.rows.RowFault.TheVariants.{Bad, NoMemory}
+use Rattle.job_config.specs.Stores.{store_of, is_misnamed}
+use Rattle.props_text.specs.Written.{written_text}
+use Rattle.job_config.specs.Table.{is_unread}
+use Rattle.job_config.specs.Lists.{entries_of, each_once}
+
+-- an entry, where it isn't empty
+abbrev pub kept : List ℕ → List (List ℕ)
+kept [] = []
+kept (c ∷ cs) = (c ∷ cs) ∷ []
+
+-- the entries of what is left of a list, if anything is
+abbrev pub entries_left : Option (List ℕ) → List (List ℕ)
+entries_left None = []
+entries_left (Some rest) = entries_of rest
+
+-- how much is left of a list: one more than its length, if anything is
+abbrev pub size_left : Option (List ℕ) → ℕ
+size_left None = 0
+size_left (Some rest) = length rest + 1
+
+-- each name once; where they are more than `most`, only that they are
+abbrev pub IsEachOnce : ℕ → List (List ℕ) → List (List ℕ) → Type 0
+IsEachOnce most names once = (length once ≤ most → once ≡ each_once names) × (most < length once → most < length (each_once names))
+
+-- the names in order, with this one
+abbrev pub with_store : Option (List ℕ) → List (List ℕ) → List (List ℕ)
+with_store None names = names
+with_store (Some name) names = insert_key (slice_cmp nat_cmp) names name
+
+-- the store of a key is put among the names, or the key is misnamed
+abbrev pub PutsStore : List ℕ → List (List ℕ) → List (List ℕ) → Result (Unit {0}) RowFault → Type 0
+PutsStore key old new (Ok _) = (is_misnamed key ≡ false) × (new ≡ with_store (store_of key) old)
+PutsStore key old new (Err NoMemory) = Unit {0}
+PutsStore key old new (Err (Bad k what)) = (is_misnamed key ≡ true) × (k ≡ key) × (what ≡ BadName)
+
+-- a key as it is written, where nobody asked for it
+abbrev pub if_unread : List (List ℕ) → List ℕ → List (List ℕ)
+if_unread asked key = cond (is_unread asked key) (written_text key ∷ []) []
+
+-- the fault of a row, with its key as it is written, or want of memory
+abbrev pub IsWritten : RowFault → ConfigFault → Type 0
+IsWritten fault NoRoom = Unit {0}
+IsWritten NoMemory (BadKey k w) = ⊥
+IsWritten (Bad key what) (BadKey k w) = (k ≡ written_text key) × (w ≡ what)

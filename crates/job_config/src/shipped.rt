@@ -1,0 +1,10 @@
+// The jobs that come with the container.
+
+/// A shipped job by its class, without what it is given.
+#[derive(Clone, Copy, Debug, PartialEq, Eq)]
+pub enum Shipped {
+    WordCount,
+    Dedupe,
+    SessionCount,
+    TableJoin,
+}
