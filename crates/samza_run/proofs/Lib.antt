@@ -1,0 +1,7 @@
+mod Advancing
+mod Exact
+mod Passing
+mod Ready
+pub mod Spelled
+mod Told
+mod Working

@@ -1,0 +1,45 @@
+-- Clauses over results, and over an outside that tells its bytes.
+use Rattle.std.proofs.Common.{ℕ, List, Result, Ok, Err, OnOk, IfErr, inl, inr}
+use Rattle.samza_model.specs.declared.setups.Setup.{Setup}
+use Rattle.samza_model.specs.Files.{Image}
+use Rattle.task_unit.specs.declared.faults.OpenFault.{OpenFault}
+use Rattle.task_unit.specs.declared.faults.OpenFault.TheVariants.{Device, Damaged, Shape, Ahead, Tail, Limit, NoMemory}
+use Rattle.task_unit.specs.Refused.{WhyNoInput}
+use Rattle.task_unit.specs.Units.{WhyNotOpened}
+
+pub on_ok : {A E : Type 0} (r : Result A E) {P Q : Type 0} → (P → Q) → OnOk r P → OnOk r Q
+on_ok (Ok x) go p = go p
+on_ok (Err e) go p = tt
+
+pub if_err : {A E : Type 0} (r : Result A E) {P Q : E → Type 0} → ((e : E) → P e → Q e) → IfErr r P → IfErr r Q
+if_err (Ok x) go p = tt
+if_err (Err e) go p = go e p
+
+pub if_err_both : {A E : Type 0} (r : Result A E) {P Q R : E → Type 0} → ((e : E) → P e → Q e → R e) → IfErr r P → IfErr r Q → IfErr r R
+if_err_both (Ok x) go p q = tt
+if_err_both (Err e) go p q = go e p q
+
+no_input_told : (tells : Type 0) (bytes : List ℕ) (partition : ℕ) (e : OpenFault) → tells → WhyNoInput tells bytes partition e → WhyNoInput (Unit {0}) bytes partition e
+no_input_told tells bytes partition Device told why = tt
+no_input_told tells bytes partition (Damaged input file at) told why = (why.0, why.1, λ _. why.2 told)
+no_input_told tells bytes partition Shape told why = absurd why
+no_input_told tells bytes partition (Ahead input store wanted held) told why = absurd why
+no_input_told tells bytes partition (Tail store count held) told why = absurd why
+no_input_told tells bytes partition Limit told why = absurd why
+no_input_told tells bytes partition NoMemory told why = tt
+
+-- the disk and the shelf tell their bytes
+pub opened_told : (tells told : Type 0) (s : Setup) (image : Image) (bytes : List ℕ) (e : OpenFault) → tells → told → WhyNotOpened tells told s image bytes e → WhyNotOpened (Unit {0}) (Unit {0}) s image bytes e
+opened_told tells told s image bytes e disk shelf (inl why) = inl (λ _. why disk)
+opened_told tells told s image bytes e disk shelf (inr (inl why)) = inr (inl (no_input_told told bytes _ e shelf why))
+opened_told tells told s image bytes e disk shelf (inr (inr p)) = inr (inr (record {
+  mark = p.mark;
+  marked = λ _. p.marked disk;
+  records = p.records;
+  read = λ _. p.read shelf;
+  next = p.next;
+  kept = p.kept;
+  honoured = p.honoured;
+  past = p.past;
+  fault = p.fault;
+}))

@@ -1,0 +1,136 @@
+-- A unit from its opening to its last commit.
+use Rattle.std.proofs.Common.{ℕ, suc, ◌≡◌, ◌<◌, ◌≤◌, ◌⊎◌, List, [], ◌∷◌, length, map, get_or, inl, inr, sym, subst, ap, ◌∙◌, refl, arith}
+use Rattle.samza_model.specs.declared.messages.Record.{Record}
+use Rattle.samza_model.specs.declared.setups.Setup.{Setup}
+use Rattle.samza_model.specs.Content.{State, sent_at}
+use Rattle.samza_model.specs.Files.{Image, checkpoint_file, changelog_file, output_file}
+use Rattle.samza_model.specs.Logs.{HasLog}
+use Rattle.samza_model.specs.Meaning.{Meaning}
+use Rattle.samza_model.specs.Restored.{Restores, next_at, start_of}
+use Rattle.task_unit.specs.Growth.{Passes, PassesLimit}
+use Rattle.task_unit.specs.Refused.{CountsHold}
+use Rattle.task_unit.specs.Units.{UnitValue, IsFailed, LogsStay, SameFrames, input_of}
+use Rattle.samza_run.specs.declared.faults.RunFault.{RunFault}
+use Rattle.samza_run.specs.declared.faults.RunFault.TheVariants.{Words, NoText, NotBuilt, NoPartition, Device, NotOpened, Failed, Limit, NoMemory}
+use Rattle.samza_run.specs.Causes.{WhyNotFinished, WhyUnfinished}
+use Rattle.samza_run.specs.Runs.{fresh, AreChanges, Does, Reaches, Ran, FillsFrom, Finishes}
+
+-- as many lists as outputs, each of them empty
+all_empty : {Y : Type 0} (lists : List (List Record)) (outputs : List Y) → length lists ≡ length outputs → ((j : ℕ) → j < length outputs → get_or lists j [] ≡ []) → lists ≡ map (λ _. []) outputs
+all_empty [] [] as_many each = refl
+all_empty [] (y ∷ ys) as_many each = absurd (omega (arith, as_many))
+all_empty (l ∷ ls) [] as_many each = absurd (omega (arith, as_many))
+all_empty (l ∷ ls) (y ∷ ys) as_many each =
+    ap (λ (x : List Record). x ∷ ls) (each 0 (omega arith)) ∙ ap (λ (xs : List (List Record)). [] ∷ xs) (all_empty ls ys (omega (arith, as_many)) (λ j lt. each (suc j) (omega (arith, lt))))
+
+-- an output's file, a store's changelog, or the checkpoint file
+IsTaskFile : Setup → ℕ → Type 0
+IsTaskFile s file = ((j : ℕ) × (j < length s.outputs) × (file ≡ output_file j)) ⊎ (((i : ℕ) × (i < length s.stores) × (file ≡ changelog_file i)) ⊎ (file ≡ checkpoint_file))
+
+-- a file that has the same frames passes the limit with the same
+module _ (s : Setup) (now there : Image) (carry : (file : ℕ) → IsTaskFile s file → (frames : List (List Record)) → Passes (now file) frames → Passes (there file) frames) where
+  passes_there : (unlogged sent : List (List Record)) → PassesLimit s now unlogged sent → PassesLimit s there unlogged sent
+  unfolding IsTaskFile
+  passes_there unlogged sent (inl o) =
+      let p = o.passes in
+      inl (record { output = o.output; within = o.within; passes = record { frames = p.frames; cut = p.cut; passes = carry (output_file o.output) (inl (o.output, o.within, refl)) p.frames p.passes } })
+  passes_there unlogged sent (inr (inl o)) =
+      let p = o.passes in
+      inr (inl (record { store = o.store; within = o.within; passes = record { frames = p.frames; cut = p.cut; passes = carry (changelog_file o.store) (inr (inl (o.store, o.within, refl))) p.frames p.passes } }))
+  passes_there unlogged sent (inr (inr m)) =
+      inr (inr (record { mark = m.mark; named = m.named; last = m.last; spells = m.spells; passes = carry checkpoint_file (inr (inr refl)) ((m.last ∷ []) ∷ []) m.passes }))
+
+same_at : (s : Setup) (before after : Image) → LogsStay s before after → (file : ℕ) → IsTaskFile s file → SameFrames before after file
+unfolding IsTaskFile
+same_at s before after stay file (inl o) = subst (SameFrames before after) (sym o.2) (stay.outputs o.0 o.1)
+same_at s before after stay file (inr (inl o)) = subst (SameFrames before after) (sym o.2) (stay.changelogs o.0 o.1)
+same_at s before after stay file (inr (inr is)) = subst (SameFrames before after) (sym is) stay.marks
+
+passes_before : (s : Setup) (before after : Image) → LogsStay s before after → (unlogged sent : List (List Record)) → PassesLimit s after unlogged sent → PassesLimit s before unlogged sent
+passes_before s before after stay = passes_there s after before (λ file is frames p. record { had = p.had; has = (same_at s before after stay file is p.had).1 p.has; passes = p.passes })
+
+passes_behind : (s : Setup) (before after : Image) → LogsStay s before after → (unlogged sent : List (List Record)) → PassesLimit s before unlogged sent → PassesLimit s after unlogged sent
+passes_behind s before after stay = passes_there s before after (λ file is frames p. record { had = p.had; has = (same_at s before after stay file is p.had).0 p.has; passes = p.passes })
+
+module _ {P D S : Type 0} (job : Meaning) (s : Setup) (bytes : List ℕ) (image reads : Image) (u : UnitValue P D S) (setup_is : u.setup ≡ s)
+    (restored : Restores s image u.mark u.state.stores) (counts : CountsHold image u.mark (length s.stores)) (stay : LogsStay s image reads) (has : HasLog bytes u.messages)
+    (start : (u.next ≡ start_of (next_at u.mark 0) (input_of s) (record { first = 0; records = u.messages })) × (u.begun ≡ u.next)) (within : u.next ≤ length u.messages)
+    (outputs : length u.state.sent ≡ length s.outputs) (unsent : (j : ℕ) → j < length s.outputs → sent_at u.state.sent j ≡ []) where
+  is_fresh : u.state ≡ fresh s u.state.stores
+  is_fresh = ap (λ (sent : List (List Record)). record { stores = u.state.stores; sent = sent }) (all_empty u.state.sent s.outputs outputs unsent)
+
+  -- what passes the limit as the files were found passes it as they are open
+  filled : FillsFrom job s image u.messages u.next (fresh s u.state.stores) → FillsFrom job s reads u.messages u.next u.state
+  filled fills = record {
+    left = fills.left;
+    does = subst (λ old. Does job s u.messages u.next (length u.messages) old fills.left) (sym is_fresh) fills.does;
+    unlogged = fills.unlogged;
+    changes = subst (λ old. AreChanges job s u.messages u.next (length u.messages) old fills.left fills.unlogged) (sym is_fresh) fills.changes;
+    passes = passes_behind s image reads stay fills.unlogged fills.left.sent fills.passes;
+  }
+
+  reaches : (to : ℕ) (state : State) → Does job u.setup u.messages u.next to u.state state → Reaches job s bytes image u.mark u.messages u.begun to state
+  reaches to state does = record {
+    stores = u.state.stores;
+    restored = restored;
+    counts = counts;
+    has_messages = has;
+    begins = start.1 ∙ start.0;
+    within = omega (arith, start.1, within);
+    does = subst (λ from. Does job s u.messages from to (fresh s u.state.stores) state) (sym start.1)
+        (subst (λ old. Does job s u.messages u.next to old state) is_fresh (subst (λ t. Does job t u.messages u.next to u.state state) setup_is does));
+  }
+
+  pub has_run : (after : Image) → Finishes job u.setup u.messages u.next u.state reads after u.mark → Ran job s bytes image after
+  unfolding reaches
+  has_run after done =
+      let f = subst (λ t. Finishes job t u.messages u.next u.state reads after u.mark) setup_is done in
+      let c = f.committed in
+      record {
+        mark = u.mark;
+        messages = u.messages;
+        begun = u.begun;
+        state = f.left;
+        reached = reaches (length u.messages) f.left (subst (λ t. Does job t u.messages u.next (length u.messages) u.state f.left) (sym setup_is) f.does);
+        room = λ fills. f.room (filled (subst (λ (begun : ℕ). FillsFrom job s image u.messages begun (fresh s u.state.stores)) start.1 fills));
+        made = f.made;
+        committed = record {
+          id_is = c.id_is;
+          next_is = c.next_is;
+          counts = c.counts;
+          restores = c.restores;
+          sends = λ j had lt log. c.sends j had lt (record { frames = log.frames; has = (stay.outputs j lt log.frames).0 log.has; records_are = log.records_are });
+        };
+      }
+
+  pub unfinished : (tells : Type 0) (told : tells) (e : RunFault) → WhyNotFinished tells job u.setup reads u.messages u.begun u.next u.state e → WhyUnfinished job s bytes image e
+  unfolding reaches
+  unfinished tells told (Words place) why = absurd why
+  unfinished tells told NoText why = absurd why
+  unfinished tells told (NotBuilt key) why = absurd why
+  unfinished tells told NoPartition why = absurd why
+  unfinished tells told Device why = tt
+  unfinished tells told (NotOpened e) why = absurd why
+  unfinished tells told (Failed f) why = record {
+    mark = u.mark;
+    messages = u.messages;
+    begun = u.begun;
+    next = why.reached;
+    state = why.left;
+    reached = reaches why.reached why.left why.does;
+    failed = subst (λ t. IsFailed job t u.messages u.begun why.reached why.left f) setup_is why.failed;
+  }
+  unfinished tells told Limit why =
+      let f = subst (λ t. FillsFrom job t reads u.messages u.next u.state) setup_is (why told) in
+      record {
+        mark = u.mark;
+        messages = u.messages;
+        begun = u.begun;
+        state = f.left;
+        reached = reaches (length u.messages) f.left (subst (λ t. Does job t u.messages u.next (length u.messages) u.state f.left) (sym setup_is) f.does);
+        unlogged = f.unlogged;
+        changes = subst (λ from. AreChanges job s u.messages from (length u.messages) (fresh s u.state.stores) f.left f.unlogged) (sym start.1)
+            (subst (λ old. AreChanges job s u.messages u.next (length u.messages) old f.left f.unlogged) is_fresh f.changes);
+        passes = passes_before s image reads stay f.unlogged f.left.sent f.passes;
+      }
+  unfinished tells told NoMemory why = tt

@@ -1,0 +1,82 @@
+// Why a run ends otherwise than well, and the status that tells it.
+ghost use Rattle.std.specs.Prelude.{◌≡◌};
+ghost use Rattle.samza_run.specs.Causes.{open_status, status_of, host_fault};
+
+use disk_model::HostFault;
+use samza_model::{Bin, Failure, NoMemory};
+use task_unit::OpenFault;
+
+/// Why a run ended otherwise than well: the first cause in the order of work.
+#[derive(Debug, Drop)]
+pub enum RunFault {
+    /// The words are no command; the place of the first one that is refused, from 1.
+    Words { place: u64 },
+    /// The folder has no `job.properties`.
+    NoText,
+    /// This key, or file, asks for something that isn't built yet.
+    NotBuilt { key: Bin },
+    /// The input stream has no partition.
+    NoPartition,
+    /// A device failed, and the host's count of faults rose.
+    Device,
+    /// The task can't be opened.
+    NotOpened(OpenFault),
+    /// The job failed a message.
+    Failed(Failure),
+    /// A file would pass 2^40 bytes.
+    Limit,
+    NoMemory,
+}
+
+impl From<NoMemory> for RunFault {
+    ghost use Rattle.std.specs.Prelude.{◌≡◌};
+    ghost use Rattle.samza_run.specs.declared.faults.RunFault.TheVariants.{NoMemory as NoRoom};
+
+    ghost from_gives = { λ _ e. e ≡ NoRoom };
+
+    fn from(_: NoMemory) -> Self {
+        RunFault::NoMemory
+    }
+}
+
+/// A host's fault as the run's.
+pub(crate) fn of_host(fault: HostFault) -> RunFault
+    ensures { result ≡ host_fault fault }
+{
+    match fault {
+        HostFault::Device => RunFault::Device,
+        HostFault::NoMemory => RunFault::NoMemory,
+    }
+}
+
+fn open_status(fault: &OpenFault) -> u8
+    ensures { result ≡ open_status fault.now }
+{
+    match fault {
+        OpenFault::Device => 4,
+        OpenFault::Damaged { .. }
+        | OpenFault::Shape
+        | OpenFault::Ahead { .. }
+        | OpenFault::Tail { .. } => 6,
+        OpenFault::Limit => 9,
+        OpenFault::NoMemory => 8,
+    }
+}
+
+impl RunFault {
+    /// The status with which the program ends: 2 for the words, 3 for the configuration, 4 where a device failed, 5 where
+    /// the job failed, 6 for files that can't be run on, 8 for want of memory, and 9 for a limit.
+    pub fn status(&self) -> u8
+        ensures { result ≡ status_of self.now }
+    {
+        match self {
+            RunFault::Words { .. } => 2,
+            RunFault::NoText | RunFault::NotBuilt { .. } | RunFault::NoPartition => 3,
+            RunFault::Device => 4,
+            RunFault::NotOpened(fault) => open_status(fault),
+            RunFault::Failed(_) => 5,
+            RunFault::Limit => 9,
+            RunFault::NoMemory => 8,
+        }
+    }
+}
