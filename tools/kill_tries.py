@@ -1,0 +1,140 @@
+#!/usr/bin/env python3
+"""Kills the program at random moments of a run on real folders, and checks what it leaves.
+
+  kill_tries.py PROGRAM [TRIES [SEED]]
+
+Each try begins with a folder that was run once, to which messages were added. The program is started on it and killed. Its
+files must then restore to the checkpoint before or to the next one, with just that checkpoint's counts, and the output must
+have what it had, or that followed by all that the added messages send. Run again, the program must come to the input's end, or
+refuse a changelog that is ahead of its checkpoint (status 6), which the program can't take back yet.
+
+A killed process leaves what it wrote, so this is no test of a loss of power.
+"""
+import collections
+import os
+import random
+import shutil
+import subprocess
+import sys
+import tempfile
+import time
+
+import topicfile
+
+CONFIGURATION = os.path.join(os.path.dirname(os.path.abspath(__file__)), "..", "examples", "word_count", "job.properties")
+BEFORE, ADDED = 3000, 3000
+
+
+def messages(count):
+    words = topicfile.words_of(7)
+    return [(b"%08d" % i, b" ".join(next(words) for _ in range(4))) for i in range(count)]
+
+
+def counted(records):
+    """The store and the output that the word count makes of messages."""
+    store, sent = collections.Counter(), []
+    for _, value in records:
+        for word in value.split(b" "):
+            store[word] += 1
+            sent.append((word, b"%d" % store[word]))
+    return {word: b"%d" % count for word, count in store.items()}, sent
+
+
+def log_of(path):
+    if not os.path.exists(path):
+        return []
+    with open(path, "rb") as file:
+        data = file.read()
+    return [record for _, records in topicfile.batches(data) for record in records]
+
+
+def folded(records):
+    store = {}
+    for key, value in records:
+        if value is None:
+            store.pop(key, None)
+        else:
+            store[key] = value
+    return store
+
+
+def run(program, folder):
+    return subprocess.run([program, "run", folder], stdout=subprocess.DEVNULL, stderr=subprocess.DEVNULL).returncode
+
+
+class Tries:
+    def __init__(self, program, place):
+        self.program, self.place = program, place
+        self.all = messages(BEFORE + ADDED)
+        self.stores = {1: counted(self.all[:BEFORE])[0], 2: counted(self.all)[0]}
+        self.sent = counted(self.all)[1]
+        self.base = os.path.join(place, "base")
+        lines = os.path.join(self.base, "streams", "kafka", "lines", "0.log")
+        os.makedirs(os.path.dirname(lines))
+        shutil.copy(CONFIGURATION, self.base)
+        self.write(lines, self.all[:BEFORE])
+        assert run(program, self.base) == 0, "the first run"
+        self.write(lines, self.all)
+
+    def write(self, path, records):
+        stdout, sys.stdout = sys.stdout, open(os.devnull, "w")
+        try:
+            topicfile.write_file(path, records)
+        finally:
+            sys.stdout.close()
+            sys.stdout = stdout
+
+    def restored(self, folder):
+        """The last checkpoint's number, and whether its changelog is ahead of it."""
+        task = os.path.join(folder, "tasks", "0")
+        number, mark = topicfile.checkpoints(os.path.join(task, "0.log"))[-1]
+        count = mark["stores"][0][2][0]
+        changes = log_of(os.path.join(task, "1.log"))
+        assert number in self.stores, f"checkpoint {number}"
+        assert mark["inputs"] == [("kafka.lines", 0, BEFORE if number == 1 else BEFORE + ADDED)], mark
+        assert folded(changes[:count]) == self.stores[number], "the store isn't its checkpoint's"
+        sent = log_of(os.path.join(task, "16.log"))
+        assert sent in (self.sent[: 4 * BEFORE], self.sent), f"the output has {len(sent)} records"
+        assert number == 1 or sent == self.sent, "the output lacks what the checkpoint covers"
+        return number, count < len(changes)
+
+    def one(self, delay):
+        folder = os.path.join(self.place, "try")
+        shutil.rmtree(folder, ignore_errors=True)
+        shutil.copytree(self.base, folder)
+        process = subprocess.Popen([self.program, "run", folder], stdout=subprocess.DEVNULL, stderr=subprocess.DEVNULL)
+        time.sleep(delay)
+        process.kill()
+        process.wait()
+        number, ahead = self.restored(folder)
+        status = run(self.program, folder)
+        if ahead:
+            assert status == 6, f"status {status} with a changelog ahead of its checkpoint"
+            return "refused: the changelog was ahead"
+        assert status == 0, f"status {status} after checkpoint {number}"
+        last, mark = topicfile.checkpoints(os.path.join(folder, "tasks", "0", "0.log"))[-1]
+        assert last == number + 1 and mark["inputs"][0][2] == BEFORE + ADDED, mark
+        assert folded(log_of(os.path.join(folder, "tasks", "0", "1.log"))) == self.stores[2], "the store behind the last run"
+        return f"went on behind checkpoint {number}"
+
+
+def main(words):
+    program = os.path.abspath(words[0])
+    tries = int(words[1]) if len(words) > 1 else 200
+    draw = random.Random(int(words[2]) if len(words) > 2 else 1)
+    with tempfile.TemporaryDirectory() as place:
+        all_tries = Tries(program, place)
+        shutil.copytree(all_tries.base, os.path.join(place, "whole"))
+        begun = time.time()
+        assert run(program, os.path.join(place, "whole")) == 0, "a whole second run"
+        whole = time.time() - begun
+        # half of the moments lie towards the run's end, where it commits
+        seen = collections.Counter(all_tries.one(draw.uniform(0.7 * (n % 2), 1.1) * whole) for n in range(tries))
+    for outcome, count in sorted(seen.items()):
+        print(f"{count} tries {outcome}")
+
+
+if __name__ == "__main__":
+    if len(sys.argv) < 2:
+        sys.exit(__doc__)
+    main(sys.argv[1:])
