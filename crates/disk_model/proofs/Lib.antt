@@ -1,6 +1,7 @@
 pub mod ByName
 pub mod Counts
 pub mod CrashSteps
+pub mod ArmSteps
 pub mod HostSteps
 pub mod Moments
 pub mod Replays

@@ -1,3 +1,4 @@
+pub mod Arms
 pub mod Cells
 pub mod FileStates
 pub mod Formed

@@ -1,9 +1,11 @@
 -- The meanings of a host in memory.
-use Rattle.std.specs.Prelude.{ℕ, List, Option}
+use Rattle.std.specs.Prelude.{ℕ, ◌-◌, Bool, List, Option}
 use Rattle.samza_model.specs.Files.{Image}
 use Rattle.disk_model.specs.Handles.{SameAt}
 use Rattle.disk_model.specs.MemoryDisk.{mem_calls, mem_file_count, mem_images, mem_images_since, mem_reads}
 use Rattle.disk_model.specs.Slots.{held_in, images_in, number_in, outs_in, reads_in, shelves_in, since_in, slot_at, text_in}
+use Rattle.disk_model.specs.Arms.{said_fails}
+use Rattle.disk_model.specs.Tallies.{fails_at}
 use Rattle.disk_model.specs.declared.memory_disk.MemDisk.{MemDisk}
 use Rattle.disk_model.specs.declared.memory_host.MemHost.{MemHost}
 use Rattle.disk_model.specs.declared.names.DiskName.{DiskName}
@@ -38,6 +40,18 @@ host_shelves_out h n = shelves_in (slot_at h.slots.items n)
 
 abbrev pub host_faults : MemHost → ℕ
 host_faults h = h.tally.faults
+
+-- the number of calls of the host itself
+abbrev pub host_own_calls : MemHost → ℕ
+host_own_calls h = h.tally.calls
+
+-- a call of the host itself with this number is told to fail
+abbrev pub host_fails : MemHost → ℕ → Bool
+host_fails h number = fails_at h.tally.fail_at.items h.tally.stop_after (number - h.tally.from)
+
+-- a call with this number, counted from the handing out, is told to fail on each disk and shelf of a name
+abbrev pub host_armed : MemHost → DiskName → ℕ → Bool
+host_armed h n = said_fails (held_in (slot_at h.arms.items n))
 
 -- the host's disk of a name is as it was
 abbrev pub IsSameHeld : MemHost → MemHost → DiskName → Type 0

@@ -1,5 +1,6 @@
 -- The meanings of a shelf in memory.
-use Rattle.std.specs.Prelude.{ℕ, List}
+use Rattle.std.specs.Prelude.{ℕ, ◌-◌, Bool, List}
+use Rattle.disk_model.specs.Tallies.{fails_at}
 use Rattle.disk_model.specs.declared.memory_shelf.MemShelf.{MemShelf}
 use Rattle.disk_model.specs.declared.names.DiskName.{DiskName}
 
@@ -14,3 +15,10 @@ shelf_bytes s = s.bytes.items
 
 abbrev pub shelf_faults : MemShelf → ℕ
 shelf_faults s = s.tally.faults
+
+abbrev pub shelf_calls : MemShelf → ℕ
+shelf_calls s = s.tally.calls
+
+-- a call with this number is told to fail
+abbrev pub shelf_fails : MemShelf → ℕ → Bool
+shelf_fails s number = fails_at s.tally.fail_at.items s.tally.stop_after (number - s.tally.from)

@@ -1,13 +1,14 @@
 // Small steps of a host in memory.
 ghost use Rattle.std.specs.Prelude.{◌≡◌, ◌-◌, ◌^◌, ◌+◌, ℕ, Option, Some, None, IfOk, OnOk, OnErr, MatchOption, min, max};
 ghost use Rattle.disk_model.specs.Images.{Only, SameElsewhere};
-ghost use Rattle.disk_model.specs.MemoryDisk.{mem_name, mem_reads, mem_images, mem_file_count, mem_faults, IsSameDisk};
-ghost use Rattle.disk_model.specs.MemoryShelf.{shelf_name, shelf_file, shelf_bytes, shelf_faults};
+ghost use Rattle.disk_model.specs.MemoryDisk.{mem_name, mem_reads, mem_images, mem_file_count, mem_calls, mem_fails, mem_faults, IsSameDisk};
+ghost use Rattle.disk_model.specs.MemoryShelf.{shelf_name, shelf_file, shelf_bytes, shelf_calls, shelf_fails, shelf_faults};
 ghost use Rattle.disk_model.specs.Slots.{slot_at, held_in, reads_in, number_in, text_in, ChangesSlot};
+ghost use Rattle.disk_model.specs.Tallies.{fails_at};
 ghost use Rattle.disk_model.specs.HostSteps.{IsPlaced, IsCrashed, ChangesHeld};
 ghost use Rattle.disk_model.specs.declared.memory_disk.MemDisk.{MemDisk};
 
-use crate::arms::Arm;
+use crate::arms::Failing;
 use crate::memory_shelf::MemShelf;
 use crate::names_held::{held_of, place_of};
 use crate::slots::Slot;
@@ -53,12 +54,14 @@ pub(crate) fn new_shelf(
     name: &DiskName,
     file: u32,
     bytes: &[u8],
-    arm: Arm,
+    failing: Failing,
 ) -> Result<MemShelf, NoMemory>
     ensures bytes { IfOk result (λ s. shelf_bytes s ≡ bytes.now) }
     ensures name { IfOk result (λ s. shelf_name s ≡ name.now) }
     ensures file { IfOk result (λ s. shelf_file s ≡ file) }
     ensures fresh { IfOk result (λ s. shelf_faults s ≡ 0) }
+    ensures fails { IfOk result (λ s. (number : ℕ) → shelf_fails s number ≡ fails_at failing.fail_at.items failing.stop_after number) }
+    ensures calls { IfOk result (λ s. shelf_calls s ≡ 0) }
 {
     let name = name.copy(alloc)?;
     let bytes = Vec::from_slice(alloc, bytes)?;
@@ -70,21 +73,22 @@ pub(crate) fn new_shelf(
             calls: 0,
             faults: 0,
             from: 0,
-            fail_at: arm.fail_at,
-            stop_after: arm.stop_after,
+            fail_at: failing.fail_at,
+            stop_after: failing.stop_after,
         },
     })
 }
 
 /// The disk as it is handed out.
-pub(crate) fn as_handle(disk: MemDisk, arm: Arm) -> MemDisk
+pub(crate) fn as_handle(disk: MemDisk, failing: Failing) -> MemDisk
     ensures disk { IsSameDisk disk result }
     ensures name { mem_name result ≡ mem_name disk }
     ensures faults { mem_faults result ≡ 0 }
+    ensures fails { (number : ℕ) → mem_fails result number ≡ fails_at failing.fail_at.items failing.stop_after (number - mem_calls disk) }
 {
     let mut disk = disk;
     disk.begin_handle();
-    disk.arm(arm.fail_at, arm.stop_after);
+    disk.arm(failing.fail_at, failing.stop_after);
     disk
 }
 

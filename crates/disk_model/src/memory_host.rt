@@ -5,7 +5,7 @@ ghost use Rattle.disk_model.specs.Slots.{slot_at, held_in};
 ghost use Rattle.disk_model.specs.declared.memory_disk.MemDisk.{MemDisk};
 ghost use Rattle.disk_model.specs.declared.names.DiskName.{DiskName};
 
-use crate::arms::{Arm, arm_of, put_arm, remove_arm};
+use crate::arms::{Failing, failing_of, forget_arm, put_arm};
 use crate::host_steps::{
     as_handle, copy_text, count_of_files, crash_held, new_shelf, place_held, stream_name,
 };
@@ -27,16 +27,17 @@ pub struct MemHost {
     room: u64,
     calls: u64,
     slots: Vec<Slot<MemDisk>>,
-    arms: Vec<Arm>,
+    arms: Vec<Slot<Failing>>,
     tally: Tally,
     ghost named: { (n : DiskName) (d : MemDisk) → held_in (slot_at slots.items n) ≡ Some d → mem_name d ≡ n },
 }
 
 impl MemHost {
-    ghost use Rattle.std.specs.Prelude.{◌≡◌, ◌≢◌, ◌+◌, ℕ, [], None, IfOk, IfSome, OnOk, OnErr, max, length, MatchOption, option_map};
+    ghost use Rattle.std.specs.Prelude.{◌≡◌, ◌≢◌, ◌+◌, ◌-◌, ℕ, [], None, false, IfOk, IfSome, OnOk, OnErr, max, length, MatchOption, option_map};
     ghost use Rattle.disk_model.specs.Handles.{AsMany, NoneOut};
     ghost use Rattle.disk_model.specs.Images.{Only, SameElsewhere};
-    ghost use Rattle.disk_model.specs.MemoryHost.{disk_of, host_text, host_reads, host_images, host_images_since, host_calls, host_file_count, host_disks_out, host_shelves_out, host_faults, IsSameHeld};
+    ghost use Rattle.disk_model.specs.MemoryHost.{disk_of, host_text, host_reads, host_images, host_images_since, host_calls, host_file_count, host_disks_out, host_shelves_out, host_faults, host_fails, host_own_calls, host_armed, IsSameHeld};
+    ghost use Rattle.disk_model.specs.Tallies.{fails_at};
     ghost use Rattle.disk_model.specs.MemoryDisk.{mem_states};
     ghost use Rattle.disk_model.specs.Picks.{IsPicked};
     ghost use Rattle.disk_model.specs.Slots.{slot_at, text_in};
@@ -134,9 +135,13 @@ impl MemHost {
         ensures shelves_out { AsMany (host_shelves_out self.old) (host_shelves_out self.new) }
         ensures text { host_text self.new ≡ host_text self.old }
         ensures faults { host_faults self.new ≡ host_faults self.old }
+        ensures calls { host_own_calls self.new ≡ host_own_calls self.old }
+        ensures fails { (number : ℕ) → host_fails self.new number ≡ (fails_at calls.items None (number - host_own_calls self.old)) }
+        ensures arms { (n : DiskName) (number : ℕ) → host_armed self.new n number ≡ host_armed self.old n number }
     {
         self.tally.from = self.tally.calls;
         self.tally.fail_at = calls;
+        self.tally.stop_after = None;
     }
 
     /// Says which calls fail on each disk and shelf that is given out for this name from now on.
@@ -151,12 +156,15 @@ impl MemHost {
         ensures shelves_out { AsMany (host_shelves_out self.old) (host_shelves_out self.new) }
         ensures text { host_text self.new ≡ host_text self.old }
         ensures faults { host_faults self.new ≡ host_faults self.old }
+        ensures armed { OnOk result ((number : ℕ) → host_armed self.new name.now number ≡ fails_at fail_at.items stop_after number) }
+        ensures unarmed { OnErr result ((number : ℕ) → host_armed self.new name.now number ≡ host_armed self.old name.now number) }
+        ensures arms { (n : DiskName) (number : ℕ) → n ≢ name.now → host_armed self.new n number ≡ host_armed self.old n number }
     {
-        let name = name.copy(self.alloc)?;
         put_arm(
+            self.alloc,
             &mut self.arms,
-            Arm {
-                name,
+            name,
+            Failing {
                 fail_at,
                 stop_after,
             },
@@ -179,8 +187,10 @@ impl MemHost {
         ensures shelves_out { AsMany (host_shelves_out self.old) (host_shelves_out self.new) }
         ensures text { host_text self.new ≡ host_text self.old }
         ensures faults { host_faults self.new ≡ host_faults self.old }
+        ensures none_fails { (number : ℕ) → host_armed self.new name.now number ≡ false }
+        ensures arms { (n : DiskName) (number : ℕ) → n ≢ name.now → host_armed self.new n number ≡ host_armed self.old n number }
     {
-        remove_arm(&mut self.arms, name);
+        forget_arm(&mut self.arms, name);
         crash_held(self.slots.as_mut_slice(), name, pick);
     }
 }
@@ -247,10 +257,10 @@ impl Host for MemHost {
         let Ok(()) = self.ensure(alloc, name) else {
             return Err(HostFault::NoMemory);
         };
-        let Ok(arm) = arm_of(alloc, self.arms.as_slice(), name) else {
+        let Ok(failing) = failing_of(alloc, self.arms.as_slice(), name) else {
             return Err(HostFault::NoMemory);
         };
-        let shelf = match new_shelf(alloc, name, file, self.file(name, file), arm) {
+        let shelf = match new_shelf(alloc, name, file, self.file(name, file), failing) {
             Ok(shelf) => shelf,
             Err(_) => return Err(HostFault::NoMemory),
         };
@@ -267,11 +277,11 @@ impl Host for MemHost {
         let Ok(()) = self.ensure(alloc, name) else {
             return Err(HostFault::NoMemory);
         };
-        let Ok(arm) = arm_of(alloc, self.arms.as_slice(), name) else {
+        let Ok(failing) = failing_of(alloc, self.arms.as_slice(), name) else {
             return Err(HostFault::NoMemory);
         };
         match take_held(self.slots.as_mut_slice(), name) {
-            Some(disk) => Ok(as_handle(disk, arm)),
+            Some(disk) => Ok(as_handle(disk, failing)),
             None => Err(HostFault::NoMemory),
         }
     }

@@ -1,5 +1,5 @@
 // Finding and changing what a host holds by name.
-ghost use Rattle.std.specs.Prelude.{true, false, ◌≡◌, ◌+◌, ◌-◌, ◌<◌, ◌≤◌, ◌^◌, ◌++◌, ◌∷◌, [], ℕ, List, Option, Some, None, length, MatchOption, IfNone, IfSome};
+ghost use Rattle.std.specs.Prelude.{true, false, ◌≡◌, ◌+◌, ◌-◌, ◌<◌, ◌≤◌, ◌^◌, ◌⊎◌, ◌++◌, ◌∷◌, [], ℕ, List, Option, Some, None, length, MatchOption, IfNone, IfSome};
 ghost use Rattle.disk_model.specs.Slots.{slot_at, held_in, outs_in, shelves_in, IsPlace, ChangesSlot};
 
 use crate::DiskName;
@@ -47,6 +47,7 @@ pub fn one_out<T>(slots: &mut [Slot<T>], name: &DiskName) -> bool
     ensures changed { result ≡ true → ChangesSlot name.now (λ s. record { name = s.name; held = s.held; shelves = s.shelves + 1 }) slots.old slots.new }
     ensures there { result ≡ true → slot_at slots.old name.now ≡ None → ⊥ }
     ensures refused { result ≡ false → slots.new ≡ slots.old }
+    ensures cause { result ≡ false → (slot_at slots.old name.now ≡ None) ⊎ (shelves_in (slot_at slots.old name.now) ≡ 2 ^ 64 - 1) }
 {
     let Some(place) = place_of(slots, name) else {
         return false;

@@ -1,5 +1,5 @@
 -- A frame that is read from its place.
-use Rattle.std.proofs.Common.{ℕ, ◌≡◌, ◌^◌, ◌+◌, ◌-◌, ◌<◌, ◌≤◌, List, [], ◌∷◌, ◌++◌, length, take, drop, Result, Ok, Err, refl, sym, ◌∙◌, ap, subst, arith, append_assoc, length-append, length-drop}
+use Rattle.std.proofs.Common.{min, ℕ, ◌≡◌, ◌^◌, ◌+◌, ◌-◌, ◌<◌, ◌≤◌, List, [], ◌∷◌, ◌++◌, length, take, drop, Result, Ok, Err, refl, sym, ◌∙◌, ap, subst, arith, append_assoc, length-append, length-drop}
 use Rattle.std.specs.List.{AllByRecursion}
 use Rattle.std.proofs.lemmas.List.{take-take, length-take-le, take_at, drop_at, append-nil}
 use Rattle.samza_model.specs.declared.messages.Record.{Record}
@@ -16,6 +16,7 @@ use Rattle.topic_log.proofs.Spelling.{spelled-append, joined-append, spelled-pus
 use Rattle.samza_model.specs.Limits.{IsFrameable}
 use Rattle.log_frame.specs.Reading.{frame_at}
 use Rattle.log_frame.proofs.Laws.{frame_again}
+use Rattle.topic_log.proofs.Headers.{header_view}
 
 -- a frame that is there isn't refused, and its size is within the room
 module _ (bytes : List ℕ) (records : List Record) (rest : List ℕ) (fits : IsFrameable records) (split : bytes ≡ frame_bytes records ++ rest) where
@@ -30,8 +31,10 @@ module _ (file : List ℕ) (at room : ℕ) (inside : at + room ≤ length file) 
   pub room_is : room ≡ length (take room (drop at file))
   room_is = sym (length-take-le room (drop at file) (omega (arith, length-drop at file, inside)))
 
-  pub header_is : (header : List ℕ) → 8 ≤ room → header ≡ take 8 (drop at file) → header ≡ take 8 (take room (drop at file))
-  header_is header le is = is ∙ sym (take-take 8 room (drop at file) le)
+  pub header_is : (header : List ℕ) (n : ℕ) → n ≡ min room 8 → header ≡ take n (drop at file) → header ≡ take 8 (take room (drop at file))
+  header_is header n n_is is =
+      let le : n ≤ room = omega (arith, n_is) in
+      header_view (take room (drop at file)) header room n room_is n_is (is ∙ sym (take-take n room (drop at file) le))
 
   pub frame_is : (n : ℕ) (view : List ℕ) → n ≤ room → view ≡ take n (drop at file) → frame_at (take n (take room (drop at file))) ≡ frame_at (take room (drop at file)) → frame_at view ≡ Ok (records, length (frame_bytes records))
   frame_is n view le is same = ap frame_at (is ∙ sym (take-take n room (drop at file) le)) ∙ same ∙ whole_read (take room (drop at file)) records rest fits split

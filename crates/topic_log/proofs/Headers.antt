@@ -1,47 +1,20 @@
--- A frame's size is told by its first 8 bytes, and places of faults are within the bytes.
-use Rattle.std.proofs.Common.{ℕ, zero, suc, ◌≡◌, ◌+◌, ◌-◌, ◌<◌, ◌≤◌, List, [], ◌∷◌, length, take, drop, inl, inr, Bool, true, false, Option, Some, None, Result, Ok, Err, nat_lt, ◌==◌, if◌then◌else◌, refl, sym, ◌∙◌, ap, subst, arith}
+-- The places of a frame's faults are within its bytes.
+use Rattle.std.proofs.Common.{min, ℕ, zero, suc, ◌≡◌, ◌+◌, ◌-◌, ◌<◌, ◌≤◌, List, [], ◌∷◌, length, take, drop, inl, inr, Bool, true, false, Option, Some, None, Result, Ok, Err, nat_lt, ◌==◌, if◌then◌else◌, refl, sym, ◌∙◌, ap, subst, arith}
 use Rattle.std.specs.Int.{from_be_bytes, w32}
-use Rattle.std.proofs.lemmas.List.{length-take-le, length-drop, take-take, drop-take, length-take}
-use Rattle.std.proofs.lemmas.Bool.{le-ltb, lt-ltb, ltb-false, cases_lt}
+use Rattle.std.proofs.lemmas.List.{take_min, length-drop, length-take}
+use Rattle.std.proofs.lemmas.Bool.{lt-ltb, ltb-false, cases_lt}
 use Rattle.log_frame.specs.Reading.{◌>>=◌, number_at, text_at, value_at, record_at, records_at, header_at, frame_at, ended}
-
--- a header whose frame is there
-header_is : (bytes : List ℕ) (l n : ℕ) (part : List ℕ) → 8 ≤ length bytes → from_be_bytes w32 (take 4 bytes) ≡ l → l ≤ 272662528 → l ≤ length (drop 8 bytes)
-    → from_be_bytes w32 (take 4 (drop 4 bytes)) ≡ n → take l (drop 8 bytes) ≡ part
-    → header_at bytes ≡ (if n == 0 then Err 4 else if nat_lt 4096 n then Err 4 else Ok (n, part))
-unfolding header_at
-header_is bytes l n part le is_l small within is_n is_part =
-    rw (is_l, is_n, le-ltb (length bytes) 8 le, le-ltb 272662528 l small, le-ltb (length (drop 8 bytes)) l within, is_part) refl
-
-module _ (bytes : List ℕ) (l : ℕ) (is : from_be_bytes w32 (take 4 bytes) ≡ l) (some : 8 ≤ length bytes) where
-  pub header_above : 272662528 < l → frame_at bytes ≡ Err 0
-  unfolding frame_at header_at
-  header_above above = rw (is, le-ltb (length bytes) 8 some, lt-ltb 272662528 l above) refl
-
-  pub header_past : l ≤ 272662528 → length bytes < 8 + l → frame_at bytes ≡ Err 0
-  unfolding frame_at header_at
-  header_past small past =
-      let less : length (drop 8 bytes) < l = omega (arith, length-drop 8 bytes) in
-      rw (is, le-ltb (length bytes) 8 some, le-ltb 272662528 l small, lt-ltb (length (drop 8 bytes)) l less) refl
-
-  pub header_whole : l ≤ 272662528 → 8 + l ≤ length bytes → frame_at (take (8 + l) bytes) ≡ frame_at bytes
-  unfolding frame_at
-  header_whole small within =
-      let front : List ℕ = take (8 + l) bytes in
-      let long : length front ≡ 8 + l = length-take-le (8 + l) bytes within in
-      let n = from_be_bytes w32 (take 4 (drop 4 bytes)) in
-      let four : take 4 front ≡ take 4 bytes = take-take 4 (8 + l) bytes (omega arith) in
-      let next : take 4 (drop 4 front) ≡ take 4 (drop 4 bytes) =
-      ap (λ (k : ℕ). take 4 (drop 4 (take k bytes))) (let e : 8 + l ≡ 4 + (4 + l) = omega arith in e) ∙ ap (λ (b : List ℕ). take 4 b) (drop-take 4 (4 + l) bytes) ∙ take-take 4 (4 + l) (drop 4 bytes) (omega arith) in
-      let part : take l (drop 8 front) ≡ take l (drop 8 bytes) = ap (λ (b : List ℕ). take l b) (drop-take 8 l bytes) ∙ take-take l l (drop 8 bytes) (omega arith) in
-      let one = header_is front l n (take l (drop 8 bytes)) (omega (arith, long)) (ap (from_be_bytes w32) four ∙ is) small (omega (arith, length-drop 8 front, long)) (ap (from_be_bytes w32) next) part in
-      let two = header_is bytes l n (take l (drop 8 bytes)) some is small (omega (arith, length-drop 8 bytes)) refl refl in
-      ap (λ (h : Result (ℕ × List ℕ) ℕ). h >>= λ h. (records_at (8 + length h.1) h.0 h.1 >>= λ x. ended (8 + length h.1) x.0 x.1)) (one ∙ sym two)
 
 -- too few bytes for a header
 pub header_short : (bytes : List ℕ) → length bytes < 8 → frame_at bytes ≡ Err 0
 unfolding frame_at header_at
 header_short bytes less = rw (lt-ltb (length bytes) 8 less) refl
+
+-- the first bytes that are there, at most 8
+pub header_view : (rest view : List ℕ) (room n : ℕ) → room ≡ length rest → n ≡ min room 8 → view ≡ take n rest → view ≡ take 8 rest
+header_view rest view room n room_is n_is is =
+    let same : n ≡ min 8 (length rest) = omega (arith, room_is, n_is) in
+    is ∙ ap (λ (k : ℕ). take k rest) same ∙ take_min 8 rest
 
 -- where reading stops
 err_is : {A : Type 0} (d e : ℕ) → ◌≡◌ {A = Result A ℕ} (Err d) (Err e) → d ≡ e

@@ -56,16 +56,13 @@ pub(crate) fn read_frame<D: Disk>(
     ensures later { D.fault_count disk.old ≤ D.fault_count disk.new }
     ensures name { D.name disk.new ≡ D.name disk.old }
 {
-    if room < 8 {
-        return Err(LogFault::Damaged { at });
-    }
     let mut bytes = Vec::new(alloc);
-    if let Err(fault) = fill(disk, file, at, 8, &mut bytes) {
+    if let Err(fault) = fill(disk, file, at, room.min(8), &mut bytes) {
         return Err(fault);
     }
     let len = match frame_size(bytes.as_slice(), room) {
-        Some(len) => len,
-        None => return Err(LogFault::Damaged { at }),
+        Ok(len) => len,
+        Err(bad) => return Err(LogFault::Damaged { at: at + bad.at }),
     };
     if let Err(fault) = fill(disk, file, at, len, &mut bytes) {
         return Err(fault);

@@ -133,6 +133,7 @@ impl Log {
         ensures appended { OnOk result (D.tells → (before lists : List (List Record)) → IsOpen (D.reads disk.old) (D.images disk.old) self.old before → AreFrames frames.now lists
             → IsOpen (D.reads disk.new) (D.images disk.new) self.new (before ++ lists)) }
         ensures grown { OnOk result (size_of self.new ≡ size_of self.old + length (closed_frames frames.now)) }
+        ensures idle { frames.now ≡ [] → disk.new ≡ disk.old }
         ensures elsewhere { OnOk result (D.tells → SameElsewhere (file_of self.old) (D.reads disk.old) (D.reads disk.new)) }
 
         // A crash at any moment leaves the frames before, or those followed by all of these.

@@ -1,6 +1,5 @@
 // A file read in pieces: so many of its bytes are kept at a time.
 ghost use Rattle.std.specs.Prelude.{◌≡◌, ◌+◌, ◌-◌, ◌^◌, ◌<◌, ◌≤◌, ◌↔◌, ℕ, List, Ok, Err, length, take, drop, vec_len, IsTrue, IfOk, IfErr, IfSome, OnOk, MatchOption};
-ghost use Rattle.std.specs.Int.{from_be_bytes, w32};
 ghost use Rattle.samza_model.specs.Counters.{Rose};
 ghost use Rattle.log_frame.specs.Reading.{frame_at};
 ghost use Rattle.log_frame.specs.Frame.{Begins};
@@ -11,7 +10,7 @@ ghost use Rattle.topic_log.specs.Damage.{IsDamage, StopsAt};
 use crate::LogFault;
 use crate::calls::read;
 use disk_model::Disk;
-use log_frame::{Checked, check};
+use log_frame::{BadAt, Checked, check, frame_len};
 use std::alloc::Global;
 
 /// How many bytes are read at once, where the file has as many.
@@ -49,28 +48,18 @@ pub(crate) fn fill<D: Disk>(
     read(disk, file, at, bytes.as_mut_slice())
 }
 
-/// The length of the records part, in a frame's first 8 bytes.
-fn frame_len(header: &[u8]) -> u32
-    requires { length header.now ≡ 8 }
-    ensures { result ≡ from_be_bytes w32 (take 4 header.now) }
+/// How many bytes the frame has that begins with these bytes, of which the first 8 suffice, where so many stand from its
+/// first one on.
+pub(crate) fn frame_size(header: &[u8], room: u64) -> Result<u64, BadAt>
+    ensures within { IfOk result (λ n. (8 ≤ n) × (n ≤ room)) }
+    ensures near { IfErr result (λ e. e.at ≤ 4) }
+    ensures frame { (bytes : List ℕ) → header.now ≡ take 8 bytes → room ≡ length bytes → IfOk result (λ n. frame_at (take n bytes) ≡ frame_at bytes) }
+    ensures bad { (bytes : List ℕ) → header.now ≡ take 8 bytes → room ≡ length bytes → IfErr result (λ e. frame_at bytes ≡ Err e.at) }
 {
-    u32::from_be_bytes([header[0], header[1], header[2], header[3]])
-}
-
-/// How many bytes the frame with these first 8 bytes has, if it is within its bound and the room.
-pub(crate) fn frame_size(header: &[u8], room: u64) -> Option<u64>
-    requires { length header.now ≡ 8 }
-    ensures within { MatchOption result (Unit {0}) (λ n. (8 ≤ n) × (n ≤ room)) }
-    ensures frame { (bytes : List ℕ) → header.now ≡ take 8 bytes → room ≡ length bytes → MatchOption result (frame_at bytes ≡ Err 0) (λ n. frame_at (take n bytes) ≡ frame_at bytes) }
-{
-    let len = frame_len(header) as u64;
-    if 272_662_528 < len {
-        return None;
+    match header.first_chunk::<8>() {
+        Some(header) => frame_len(header, room),
+        None => Err(BadAt { at: 0 }),
     }
-    if room < 8 + len {
-        return None;
-    }
-    Some(8 + len)
 }
 
 impl Window {
@@ -143,7 +132,7 @@ impl Window {
         requires shows { D.tells → Shows self.old (D.reads disk.old self.old.file) }
         ensures within { IfOk result (λ n. (8 ≤ n) × (at + n ≤ self.old.size)) }
         ensures frame { IfOk result (λ n. D.tells → frame_at (take n (drop at (D.reads disk.old self.old.file))) ≡ frame_at (drop at (D.reads disk.old self.old.file))) }
-        ensures damaged { IfErr result (λ e. (place : ℕ) → e ≡ LogFault.Damaged place → (place ≡ at) × (D.tells → frame_at (drop at (D.reads disk.old self.old.file)) ≡ Err 0)) }
+        ensures damaged { IfErr result (λ e. (place : ℕ) → e ≡ LogFault.Damaged place → D.tells → StopsAt (drop at (D.reads disk.old self.old.file)) at place) }
         ensures file { self.new.file ≡ self.old.file }
         ensures size { self.new.size ≡ self.old.size }
         ensures shows { OnOk result (D.tells → Shows self.new (D.reads disk.old self.old.file)) }
@@ -154,13 +143,11 @@ impl Window {
         ensures name { D.name disk.new ≡ D.name disk.old }
     {
         let room = self.size - at;
-        if room < 8 {
-            return Err(LogFault::Damaged { at });
-        }
-        self.load(disk, at, 8)?;
-        match frame_size(self.view(at, 8), room) {
-            Some(size) => Ok(size),
-            None => Err(LogFault::Damaged { at }),
+        let header = room.min(8);
+        self.load(disk, at, header)?;
+        match frame_size(self.view(at, header), room) {
+            Ok(size) => Ok(size),
+            Err(bad) => Err(LogFault::Damaged { at: at + bad.at }),
         }
     }
 

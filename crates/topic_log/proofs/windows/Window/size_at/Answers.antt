@@ -1,25 +1,25 @@
-use Rattle.std.proofs.Common.{◌≡◌, drop, ◌∙◌, arith, length-drop}
-use Rattle.topic_log.proofs.Headers.{header_short}
+use Rattle.std.proofs.Common.{ℕ, ◌≡◌, ◌+◌, ◌-◌, List, length, refl, take, drop, ◌∙◌, arith, length-drop, subst}
+use Rattle.topic_log.specs.Damage.{StopsAt}
+use Rattle.topic_log.proofs.Headers.{header_view}
 use Rattle.topic_log.proofs.Walking.{view_is}
 use Rattle.topic_log.proofs.windows.Window.size_at.Goals as goal
+use Rattle.topic_log.proofs.windows.Window.size_at.Goals.{After-frame_size}
 
-pub returns-then-room-lt8-clause-damaged : goal.returns-then-room-lt8-clause-damaged
-returns-then-room-lt8-clause-damaged g c = λ place e.
+pub returns-in-Ok-clause-frame : goal.returns-in-Ok-clause-frame
+returns-in-Ok-clause-frame g c = λ told.
     let file = g.D.Disk.reads c.args.disk.now c.args.self.now.file in
-    let here : place ≡ c.args.at = cc in
-    (here, λ told. header_short (drop c.args.at file) (omega (arith, length-drop c.args.at file, c.requires.size told)))
+    let rest : List ℕ = drop c.args.at file in
+    let room : c.args.self.now.size - c.args.at ≡ length rest = omega (arith, length-drop c.args.at file, c.requires.size told) in
+    let view : c.view.result.now ≡ take 8 rest =
+    header_view rest c.view.result.now (c.args.self.now.size - c.args.at) c.min-header.result room c.min-header.ensures (c.view.ensures.view ∙ view_is c.load.new.self file c.args.at c.min-header.result (c.in_ok-load.ensures.shows told) c.in_ok-load.ensures.covers) in
+    c.in-Ok.ensures.frame rest view room
 
-pub returns-in-Some-clause-frame : goal.returns-in-Some-clause-frame
-returns-in-Some-clause-frame g c = λ told.
+pub returns-in-Err-clause-damaged : goal.returns-in-Err-clause-damaged
+returns-in-Err-clause-damaged g c = λ place e told.
     let file = g.D.Disk.reads c.args.disk.now c.args.self.now.file in
-    c.in-Some.ensures.frame (drop c.args.at file) (c.view.ensures.view ∙ view_is c.load.new.self file c.args.at 8 (c.in_ok-load.ensures.shows told) c.in_ok-load.ensures.covers)
-    (omega (arith, length-drop c.args.at file, c.requires.size told))
-
-pub returns-in-None-clause-damaged : goal.returns-in-None-clause-damaged
-returns-in-None-clause-damaged g c = λ place e.
-    let file = g.D.Disk.reads c.args.disk.now c.args.self.now.file in
-    let here : place ≡ c.args.at = cc in (
-      here,
-      λ told. c.in-None.ensures.frame (drop c.args.at file) (c.view.ensures.view ∙ view_is c.load.new.self file c.args.at 8 (c.in_ok-load.ensures.shows told) c.in_ok-load.ensures.covers)
-          (omega (arith, length-drop c.args.at file, c.requires.size told)),
-    )
+    let rest : List ℕ = drop c.args.at file in
+    let room : c.args.self.now.size - c.args.at ≡ length rest = omega (arith, length-drop c.args.at file, c.requires.size told) in
+    let view : c.view.result.now ≡ take 8 rest =
+    header_view rest c.view.result.now (c.args.self.now.size - c.args.at) c.min-header.result room c.min-header.ensures (c.view.ensures.view ∙ view_is c.load.new.self file c.args.at c.min-header.result (c.in_ok-load.ensures.shows told) c.in_ok-load.ensures.covers) in
+    let here : c.args.at + c.in-Err.bad.at ≡ place = cc in
+    subst (λ (p : ℕ). StopsAt rest c.args.at p) here (record { place = c.in-Err.bad.at; stops = c.in-Err.ensures.bad rest view room; at_is = refl })
