@@ -7,7 +7,7 @@ use Rattle.samza_model.specs.declared.checkpoints.Checkpoint.{Checkpoint}
 use Rattle.samza_model.specs.Checkpoint.{Spells}
 use Rattle.samza_model.specs.Content.{Content, nothing_stored, foldrec, store_at}
 use Rattle.samza_model.specs.Files.{Image, checkpoint_file, changelog_file, output_file}
-use Rattle.samza_model.specs.Logs.{joined, HasFrames, HasLog, HasNoLog}
+use Rattle.samza_model.specs.Logs.{joined, HasFrames, HasLog}
 use Rattle.samza_model.specs.Partition.{Partition}
 use Rattle.samza_model.specs.Restored.{count_at, next_at, start_of, fallback_start, EndsWith, HasMark, HoldsContent, IsMarked, IsNamed, Restores}
 use Rattle.topic_log.proofs.Spelling.{frames_unique, log_unique}
@@ -16,7 +16,7 @@ use Rattle.checkpoint_log.specs.Ends.{IsBadEnd}
 use Rattle.task_unit.specs.declared.faults.OpenFault.{OpenFault}
 use Rattle.task_unit.specs.declared.faults.OpenFault.TheVariants.{Device, Damaged, Shape, Ahead, Tail, Limit, NoMemory}
 use Rattle.task_unit.specs.Opens.{Opens}
-use Rattle.task_unit.specs.Refused.{CountsHold, HasChanges, OutputsRefused, StoresRefused, WhyNoFile, WhyNoInput, WhyNoMark, WhyNoStore, WhyRefused}
+use Rattle.task_unit.specs.Refused.{CountsHold, FilesHold, HasChanges, OutputsHold, OutputsRefused, StoresRefused, WhyNoFile, WhyNoInput, WhyNoMark, WhyNoStore, WhyRefused}
 use Rattle.task_unit.specs.Units.{IsPastEnd, WhyNotOpened, input_of}
 
 -- frames end with one checkpoint
@@ -65,23 +65,19 @@ not_other s frames None k none ends other = none_ends frames ends.before (ends.l
 not_other s frames (Some k') k is ends other = other (subst (λ (c : Checkpoint). IsNamed s c) (ends_one frames k' k is.0 ends) is.1)
 
 -- two numbers of one changelog's records are one
-changes_one : (image : Image) (store a b : ℕ) → HasChanges image store a → HasChanges image store b → a ≡ b
+pub changes_one : (image : Image) (store a b : ℕ) → HasChanges image store a → HasChanges image store b → a ≡ b
 changes_one image store a b p q =
     p.held_is ∙ ap (λ (fs : List (List Record)). length (joined fs)) (frames_unique (image (changelog_file store)) p.frames q.frames p.has q.has) ∙ sym q.held_is
-
--- a log that is there is no log that isn't
-log_is : (image : Image) (file f : ℕ) → (f ≡ file) → HasNoLog (image f) → (rs : List Record) → HasLog (image file) rs → ⊥
-log_is image file f same none rs log = none log.frames (subst (λ (n : ℕ). HasFrames (image n) log.frames) (sym same) log.has)
 
 module _ (s : Setup) (image : Image) (m : Option Checkpoint) (marked : IsMarked s image m) where
   marked_at : (frames : List (List Record)) → HasFrames (image checkpoint_file) frames → HasMark s frames m
   marked_at frames has = subst (λ (fs : List (List Record)). HasMark s fs m) (frames_unique (image checkpoint_file) marked.frames frames marked.has has) marked.mark_is
 
-  has_mark : (e : OpenFault) → e ≢ Device → e ≢ NoMemory → WhyNoMark s image e → ⊥
+  pub has_mark : (e : OpenFault) → e ≢ Device → e ≢ NoMemory → WhyNoMark s image e → ⊥
   has_mark Device device memory why = device refl
   has_mark (Damaged None file at) device memory why =
       elim why.1 [
-        | inl none ↦ none marked.frames marked.has
+        | inl none ↦ none.1 marked.frames marked.has
         | inr bad ↦ not_bad s bad.frames at m (marked_at bad.frames bad.has) bad.bad
       ]
   has_mark (Damaged (Some i) file at) device memory why = why
@@ -91,55 +87,53 @@ module _ (s : Setup) (image : Image) (m : Option Checkpoint) (marked : IsMarked 
   has_mark Limit device memory why = why
   has_mark NoMemory device memory why = memory refl
 
-has_store : (image : Image) (store count : ℕ) (content : Content) (e : OpenFault) → e ≢ Device → e ≢ NoMemory
-    → HoldsContent (image (changelog_file store)) count content → HasChanges image store count → WhyNoStore image store count e → ⊥
-has_store image store count content Device device memory holds counted why = device refl
-has_store image store count content (Damaged None file at) device memory holds counted why = log_is image (changelog_file store) file why.0 why.1 holds.changes holds.has
-has_store image store count content (Damaged (Some i) file at) device memory holds counted why = why
-has_store image store count content Shape device memory holds counted why = why
-has_store image store count content (Ahead None None wanted held) device memory holds counted why = why
-has_store image store count content (Ahead None (Some n) wanted held) device memory holds counted why =
+pub has_store : (image : Image) (store count : ℕ) (e : OpenFault) → e ≢ Device → e ≢ NoMemory → HasChanges image store count → WhyNoStore image store count e → ⊥
+has_store image store count Device device memory counted why = device refl
+has_store image store count (Damaged None file at) device memory counted why = why.1.1 counted.frames counted.has
+has_store image store count (Damaged (Some i) file at) device memory counted why = why
+has_store image store count Shape device memory counted why = why
+has_store image store count (Ahead None None wanted held) device memory counted why = why
+has_store image store count (Ahead None (Some n) wanted held) device memory counted why =
     absurd (omega (arith, changes_one image store held count why.2 counted, why.1, why.3))
-has_store image store count content (Ahead (Some i) n wanted held) device memory holds counted why = why
-has_store image store count content (Tail n wanted held) device memory holds counted why =
+has_store image store count (Ahead (Some i) n wanted held) device memory counted why = why
+has_store image store count (Tail n wanted held) device memory counted why =
     absurd (omega (arith, changes_one image store held count why.2 counted, why.1, why.3))
-has_store image store count content Limit device memory holds counted why = why
-has_store image store count content NoMemory device memory holds counted why = memory refl
+has_store image store count Limit device memory counted why = why
+has_store image store count NoMemory device memory counted why = memory refl
 
-has_file : (image : Image) (file : ℕ) (records : List Record) (e : OpenFault) → e ≢ Device → e ≢ NoMemory → HasLog (image file) records → WhyNoFile image file e → ⊥
-has_file image file records Device device memory has why = device refl
-has_file image file records (Damaged None f at) device memory has why = why.1 has.frames has.has
-has_file image file records (Damaged (Some i) f at) device memory has why = why
-has_file image file records Shape device memory has why = why
-has_file image file records (Ahead i n wanted held) device memory has why = why
-has_file image file records (Tail n wanted held) device memory has why = why
-has_file image file records Limit device memory has why = why
-has_file image file records NoMemory device memory has why = memory refl
+pub has_file : (image : Image) (file : ℕ) (frames : List (List Record)) (e : OpenFault) → e ≢ Device → e ≢ NoMemory → HasFrames (image file) frames → WhyNoFile image file e → ⊥
+has_file image file frames Device device memory has why = device refl
+has_file image file frames (Damaged None f at) device memory has why = why.1.1 frames has
+has_file image file frames (Damaged (Some i) f at) device memory has why = why
+has_file image file frames Shape device memory has why = why
+has_file image file frames (Ahead i n wanted held) device memory has why = why
+has_file image file frames (Tail n wanted held) device memory has why = why
+has_file image file frames Limit device memory has why = why
+has_file image file frames NoMemory device memory has why = memory refl
 
-module _ (s : Setup) (image : Image) (m : Option Checkpoint) (stores : List Content) (restored : Restores s image m stores) (counts : CountsHold image m (length s.stores))
-    (e : OpenFault) (device : e ≢ Device) (memory : e ≢ NoMemory) where
-  has_stores : StoresRefused s image e → ⊥
-  has_stores why =
+module _ (s : Setup) (image : Image) (m : Option Checkpoint) (e : OpenFault) (device : e ≢ Device) (memory : e ≢ NoMemory) where
+  pub has_stores : IsMarked s image m → CountsHold image m (length s.stores) → StoresRefused s image e → ⊥
+  has_stores marked counts why =
       let i = why.why.store in
-      let same : why.mark ≡ m = marked_one s image why.mark m why.marked restored.marked in
-      has_store image i (count_at m i) (store_at stores i) e device memory (restored.each_store i why.why.within) (counts i why.why.within)
+      let same : why.mark ≡ m = marked_one s image why.mark m why.marked marked in
+      has_store image i (count_at m i) e device memory (counts i why.why.within)
       (subst (λ (k : Option Checkpoint). WhyNoStore image i (count_at k i) e) same why.why.why)
 
-  has_outputs : OutputsRefused s image e → ⊥
-  has_outputs why =
+  has_outputs : OutputsHold image (length s.outputs) → OutputsRefused s image e → ⊥
+  has_outputs outputs why =
       let j = why.why.output in
-      let log = restored.each_output j why.why.within in
+      let log = outputs j why.why.within in
       has_file image (output_file j) log.0 e device memory log.1 why.why.why
 
-  -- an image that restores has no cause not to
-  pub not_refused : WhyRefused s image e → ⊥
-  not_refused (inl why) = has_mark s image m restored.marked e device memory why
-  not_refused (inr (inl why)) = has_stores why
-  not_refused (inr (inr why)) = has_outputs why
+  -- files that hold have no cause not to restore
+  pub not_refused : FilesHold s image m → WhyRefused s image e → ⊥
+  not_refused hold (inl why) = has_mark s image m hold.marked e device memory why
+  not_refused hold (inr (inl why)) = has_stores hold.marked hold.counts why
+  not_refused hold (inr (inr why)) = has_outputs hold.outputs why
 
-has_input : (told : Type 0) (bytes : List ℕ) (partition : ℕ) (records : List Record) (e : OpenFault) → told → e ≢ Device → e ≢ NoMemory → HasLog bytes records → WhyNoInput told bytes partition e → ⊥
+pub has_input : (told : Type 0) (bytes : List ℕ) (partition : ℕ) (records : List Record) (e : OpenFault) → told → e ≢ Device → e ≢ NoMemory → HasLog bytes records → WhyNoInput told bytes partition e → ⊥
 has_input told bytes partition records Device tells device memory has why = device refl
-has_input told bytes partition records (Damaged i file at) tells device memory has why = why.2 tells has.frames has.has
+has_input told bytes partition records (Damaged i file at) tells device memory has why = (why.2 tells).1 has.frames has.has
 has_input told bytes partition records Shape tells device memory has why = why
 has_input told bytes partition records (Ahead i n wanted held) tells device memory has why = why
 has_input told bytes partition records (Tail n wanted held) tells device memory has why = why
@@ -149,16 +143,24 @@ has_input told bytes partition records NoMemory tells device memory has why = me
 not_past : (tells told : Type 0) (s : Setup) (image : Image) (bytes : List ℕ) (e : OpenFault) → tells → told → Opens s image bytes → IsPastEnd tells told s image bytes e → ⊥
 not_past tells told s image bytes e is_told input_told opens past =
     let p : Partition = record { first = 0; records = opens.messages } in
-    let marks : past.mark ≡ opens.mark = marked_one s image past.mark opens.mark (past.marked is_told) opens.restored.marked in
+    let marks : past.mark ≡ opens.mark = marked_one s image past.mark opens.mark (past.hold is_told).marked opens.restored.marked in
     let records : past.records ≡ opens.messages = log_unique bytes past.records opens.messages (past.read input_told) opens.has_messages in
     let kept : next_at opens.mark 0 ≡ Some past.next = ap (λ (m : Option Checkpoint). next_at m 0) (sym marks) ∙ past.kept in
     let begins : start_of (next_at opens.mark 0) (input_of s) p ≡ past.next =
     ap (λ o. start_of o (input_of s) p) kept ∙ ap (λ b. if b then fallback_start (input_of s).fallback p else past.next) past.honoured in
     absurd (omega (arith, opens.within, begins, past.past, ap length records))
 
+-- where a task can be opened, its own files hold
+opens_hold : (s : Setup) (image : Image) (bytes : List ℕ) (opens : Opens s image bytes) → FilesHold s image opens.mark
+opens_hold s image bytes opens = record {
+  marked = opens.restored.marked;
+  counts = opens.counts;
+  outputs = λ j lt. let log = (opens.restored.each_output j lt).1 in (log.frames, log.has);
+}
+
 -- a task that can be opened has no cause not to be
 pub not_kept_shut : (tells told : Type 0) (s : Setup) (image : Image) (bytes : List ℕ) (e : OpenFault) → tells → told → e ≢ Device → e ≢ NoMemory → Opens s image bytes
     → WhyNotOpened tells told s image bytes e → ⊥
-not_kept_shut tells told s image bytes e is_told input_told device memory opens (inl why) = not_refused s image opens.mark opens.stores opens.restored opens.counts e device memory (why is_told)
-not_kept_shut tells told s image bytes e is_told input_told device memory opens (inr (inl why)) = has_input told bytes (input_of s).ssp.partition opens.messages e input_told device memory opens.has_messages why
+not_kept_shut tells told s image bytes e is_told input_told device memory opens (inl why) = not_refused s image opens.mark e device memory (opens_hold s image bytes opens) (why is_told)
+not_kept_shut tells told s image bytes e is_told input_told device memory opens (inr (inl why)) = has_input told bytes (input_of s).ssp.partition opens.messages e input_told device memory opens.has_messages why.why
 not_kept_shut tells told s image bytes e is_told input_told device memory opens (inr (inr why)) = not_past tells told s image bytes e is_told input_told opens why

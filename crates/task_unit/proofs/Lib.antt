@@ -1,6 +1,7 @@
 mod Appended
 mod Begun
 mod Committed
+mod Counting
 mod Cutting
 pub mod Exact
 mod Kept
@@ -10,7 +11,9 @@ mod Growing
 mod Made
 mod MarkSizes
 mod Moments
+pub mod OneCause
 mod Openings
+mod Others
 mod Places
 mod PlansSoFar
 mod Reopening

@@ -1,5 +1,5 @@
 -- What has been opened so far.
-use Rattle.std.proofs.Common.{ℕ, ◌≡◌, ◌≢◌, ◌≤◌, ◌<◌, ◌+◌, List, [], ◌∷◌, ◌++◌, length, sym, ◌∙◌, subst, arith}
+use Rattle.std.proofs.Common.{ℕ, ◌≡◌, ◌≢◌, ◌≤◌, ◌<◌, ◌+◌, inl, inr, List, [], ◌∷◌, ◌++◌, length, sym, ◌∙◌, subst, arith}
 use Rattle.samza_model.specs.declared.messages.Record.{Record}
 use Rattle.samza_model.specs.declared.checkpoints.Checkpoint.{Checkpoint}
 use Rattle.std.proofs.Common.{Option}
@@ -12,7 +12,7 @@ use Rattle.disk_model.specs.Images.{SameElsewhere}
 use Rattle.samza_model.specs.Restored.{count_at}
 use Rattle.task_unit.specs.declared.faults.OpenFault.{OpenFault}
 use Rattle.task_unit.specs.Refused.{CountsHold, OutputsHold, WhyNoStore, WhyNoStores, WhyNoFile, WhyNoOutputs}
-use Rattle.task_unit.specs.Standing.{StandsAt, HoldsStore, HoldsStores, HoldsOutputs, SameFrom}
+use Rattle.task_unit.specs.Standing.{StandsAt, HoldsStore, HoldsStores, HoldsOutputs, SameFrom, SameOutside}
 use Rattle.task_unit.proofs.Logs.{stores_more, outputs_more}
 use Rattle.task_unit.proofs.Openings.{no_store_was, no_file_was}
 
@@ -30,7 +30,7 @@ pub record StoresSoFar {D : Type 0} (tells : Type 0) (reads : D → Image) (imag
 -- the first n outputs are opened
 pub record OutputsSoFar {D : Type 0} (tells : Type 0) (reads : D → Image) (images : D → Image → Type 0) (old new : D) (n : ℕ) (logs : List Log) : Type 0 where
   pub hold : tells → HoldsOutputs (reads old) (reads new) (images new) n logs
-  pub behind : tells → SameFrom (output_file n) (reads old) (reads new)
+  pub elsewhere : tells → SameOutside (output_file 0) n (reads old) (reads new)
   pub others : tells → (log : Log) (frames : List (List Record)) → file_of log < output_file 0 → IsOpen (reads old) (images old) log frames → IsOpen (reads new) (images new) log frames
 
 -- some item of a list that has one
@@ -70,8 +70,11 @@ module _ {D : Type 0} (tells : Type 0) (reads : D → Image) (images : D → Ima
       → (tells → (l : Log) (frames : List (List Record)) → file_of l ≢ output_file n → IsOpen (reads mid) (images mid) l frames → IsOpen (reads new) (images new) l frames)
       → OutputsSoFar tells reads images old new (n + 1) (logs ++ log ∷ [])
   outputs_step n logs log h one same stays = record {
-    hold = λ told. outputs_more (reads old) (reads mid) (reads new) (images mid) (images new) n logs log (h.hold told) (h.behind told (output_file n) (omega arith)) (one told) (stays told);
-    behind = λ told f le. same told f (λ e. absurd (omega (arith, e))) ∙ h.behind told f (omega arith);
+    hold = λ told. outputs_more (reads old) (reads mid) (reads new) (images mid) (images new) n logs log (h.hold told) (h.elsewhere told (output_file n) (inr (omega arith))) (one told) (stays told);
+    elsewhere = λ told f out. elim out [
+      | inl low ↦ same told f (λ e. absurd (omega (arith, low, e))) ∙ h.elsewhere told f (inl low)
+      | inr high ↦ same told f (λ e. absurd (omega (arith, high, e))) ∙ h.elsewhere told f (inr (omega (arith, high)))
+    ];
     others = λ told l frames below o. stays told l frames (λ e. absurd (omega (arith, below, e))) (h.others told l frames below o);
   }
 
@@ -91,5 +94,5 @@ module _ {D : Type 0} (tells : Type 0) (reads : D → Image) (images : D → Ima
     output = j;
     within = lt;
     before = outputs_hold (reads old) (reads mid) (images mid) j logs (h.hold told);
-    why = no_file_was (reads mid) (reads old) (output_file j) e (h.behind told (output_file j) (omega arith)) (why told);
+    why = no_file_was (reads mid) (reads old) (output_file j) e (h.elsewhere told (output_file j) (inr (omega arith))) (why told);
   }

@@ -11,11 +11,11 @@ use Rattle.disk_model.specs.Images.{SameElsewhere}
 use Rattle.topic_log.specs.declared.logs.Log.{Log}
 use Rattle.topic_log.specs.Opened.{file_of, IsOpen}
 use Rattle.task_unit.specs.declared.faults.OpenFault.{OpenFault}
-use Rattle.task_unit.specs.Refused.{CountsHold, WhyNoStores, WhyNoOutputs, StoresRefused}
-use Rattle.task_unit.specs.Standing.{IsOpenAt, HoldsMark, HoldsStores, HoldsOutputs, SameFrom}
+use Rattle.task_unit.specs.Refused.{CountsHold, FilesHold, WhyNoStores, WhyNoOutputs, StoresRefused}
+use Rattle.task_unit.specs.Standing.{IsOpenAt, HoldsMark, HoldsStores, HoldsOutputs, IsRestored, SameFrom}
 use Rattle.task_unit.proofs.Logs.{store_was, stands_was}
 use Rattle.task_unit.proofs.Openings.{changes_were, no_store_was, no_file_was}
-use Rattle.task_unit.proofs.SoFar.{counts_hold}
+use Rattle.task_unit.proofs.SoFar.{counts_hold, outputs_hold}
 
 -- a log that stays open at its file
 pub open_kept : (reads reads' : Image) (images images' : Image → Type 0) (f : ℕ) (log : Log) (frames : List (List Record))
@@ -25,6 +25,15 @@ open_kept reads reads' images images' f log frames keep o = record { file_is = o
 
 pub marked : (s : Setup) (before reads : Image) (images : Image → Type 0) (log : Log) (mark : Option Checkpoint) → HoldsMark s before reads images log mark → IsMarked s before mark
 marked s before reads images log mark h = record { frames = h.frames; has = h.had; mark_is = h.mark_is }
+
+-- files that were opened held
+pub files_hold : (s : Setup) (before reads : Image) (images : Image → Type 0) (mark : Option Checkpoint) (marks : Log) (changelogs outputs : List Log) (stores : List Content)
+    → IsRestored s before reads images mark marks changelogs outputs stores → FilesHold s before mark
+files_hold s before reads images mark marks changelogs outputs stores r = record {
+  marked = marked s before reads images marks mark r.mark_is;
+  counts = counts_hold before reads images mark (length s.stores) changelogs stores r.stores_are;
+  outputs = outputs_hold before reads images (length s.outputs) outputs r.outputs_are;
+}
 
 counts_were : (r0 r1 : Image) (mark : Option Checkpoint) (n : ℕ) → SameElsewhere checkpoint_file r0 r1 → CountsHold r1 mark n → CountsHold r0 mark n
 counts_were r0 r1 mark n same h i lt = changes_were r1 r0 i (count_at mark i) (same (changelog_file i) (λ e. absurd (omega (arith, e)))) (h i lt)

@@ -1,11 +1,11 @@
 -- What a crash leaves of several logs while they are appended to, and while they are opened.
-use Rattle.std.specs.Prelude.{ℕ, ◌≡◌, ◌<◌, ◌≤◌, ◌+◌, ◌⊎◌, List, [], ◌∷◌, ◌++◌, length, slice_index_or}
+use Rattle.std.specs.Prelude.{ℕ, ◌<◌, ◌+◌, ◌⊎◌, List, [], ◌∷◌, ◌++◌, length, slice_index_or}
 use Rattle.samza_model.specs.declared.messages.Record.{Record}
 use Rattle.samza_model.specs.Files.{Image, checkpoint_file, changelog_file, output_file}
 use Rattle.samza_model.specs.Logs.{HasFrames}
 use Rattle.log_frame.specs.Frame.{FrameView, IsFrame, AreFrames}
 use Rattle.topic_log.specs.declared.logs.Log.{Log}
-use Rattle.task_unit.specs.Standing.{IsOpenAt}
+use Rattle.task_unit.specs.Standing.{IsOpenAt, SameOutside}
 use Rattle.task_unit.specs.declared.writing.Logs.{Logs}
 use Rattle.task_unit.specs.declared.writing.Plan.{Plan}
 
@@ -21,7 +21,7 @@ AreFramesOf n frames more = (i : ℕ) → i < n → AreFrames (slice_index_or fr
 -- are the same
 pub record AppendsEach (first n : ℕ) (had more : ℕ → List (List Record)) (old new : Image) : Type 0 where
   pub each : (i : ℕ) → i < n → HasFrames (new (first + i)) (had i) ⊎ HasFrames (new (first + i)) (had i ++ more i)
-  pub elsewhere : (f : ℕ) → (f < first) ⊎ (first + n ≤ f) → new f ≡ old f
+  pub elsewhere : SameOutside first n old new
 
 -- the frames of a task's logs: of the checkpoint file, of each changelog, and of each output
 pub record TaskFrames : Type 0 where

@@ -9,6 +9,7 @@ use Rattle.samza_model.specs.Restored.{count_at, EndsWith, IsNamed, IsMarked}
 use Rattle.task_unit.specs.declared.faults.OpenFault.{OpenFault}
 use Rattle.task_unit.specs.declared.faults.OpenFault.TheVariants.{Device, Damaged, Shape, Ahead, Tail, NoMemory}
 use Rattle.checkpoint_log.specs.Ends.{IsBadEnd}
+use Rattle.topic_log.specs.Damage.{IsDamagedAt}
 use Rattle.topic_log.specs.declared.faults.LogFault.{LogFault}
 use Rattle.topic_log.specs.declared.faults.LogFault.TheVariants.{Device as LogDevice, Damaged as LogDamaged, NoMemory as LogNoMemory}
 
@@ -19,10 +20,14 @@ IsOpeningOf file (LogDamaged at) e = e ≡ Damaged None file at
 IsOpeningOf file LogNoMemory e = e ≡ NoMemory
 IsOpeningOf file f e = ⊥
 
+-- the file is no log, and reading it as one stops at this byte
+abbrev pub IsNoLogAt : List ℕ → ℕ → Type 0
+IsNoLogAt bytes at = IsDamagedAt bytes at × HasNoLog bytes
+
 -- a file of the task isn't opened: the device, want of memory, or it is no log
 abbrev pub WhyNoFile : Image → ℕ → OpenFault → Type 0
 WhyNoFile image file Device = Unit {0}
-WhyNoFile image file (Damaged None f at) = (f ≡ file) × HasNoLog (image file)
+WhyNoFile image file (Damaged None f at) = (f ≡ file) × IsNoLogAt (image file) at
 WhyNoFile image file NoMemory = Unit {0}
 WhyNoFile image file e = ⊥
 
@@ -43,7 +48,7 @@ pub record HasOtherNames (s : Setup) (image : Image) : Type 0 where
 -- there is no checkpoint of this setup to be had
 abbrev pub WhyNoMark : Setup → Image → OpenFault → Type 0
 WhyNoMark s image Device = Unit {0}
-WhyNoMark s image (Damaged None file at) = (file ≡ checkpoint_file) × (HasNoLog (image checkpoint_file) ⊎ EndsBadly image at)
+WhyNoMark s image (Damaged None file at) = (file ≡ checkpoint_file) × (IsNoLogAt (image checkpoint_file) at ⊎ EndsBadly image at)
 WhyNoMark s image Shape = HasOtherNames s image
 WhyNoMark s image NoMemory = Unit {0}
 WhyNoMark s image e = ⊥
@@ -63,7 +68,7 @@ IsMiscount store count have e = ⊥
 -- a store isn't opened: its changelog is no log, or has fewer records than the checkpoint counts, or more
 abbrev pub WhyNoStore : Image → ℕ → ℕ → OpenFault → Type 0
 WhyNoStore image store count Device = Unit {0}
-WhyNoStore image store count (Damaged None file at) = (file ≡ changelog_file store) × HasNoLog (image file)
+WhyNoStore image store count (Damaged None file at) = (file ≡ changelog_file store) × IsNoLogAt (image (changelog_file store)) at
 WhyNoStore image store count (Ahead None (Some s) wanted held) = (s ≡ store) × (wanted ≡ count) × HasChanges image store held × (held < wanted)
 WhyNoStore image store count (Tail s wanted held) = (s ≡ store) × (wanted ≡ count) × HasChanges image store held × (wanted < held)
 WhyNoStore image store count NoMemory = Unit {0}
@@ -108,9 +113,16 @@ pub record OutputsRefused (s : Setup) (image : Image) (e : OpenFault) : Type 0 w
 abbrev pub WhyRefused : Setup → Image → OpenFault → Type 0
 WhyRefused s image e = WhyNoMark s image e ⊎ (StoresRefused s image e ⊎ OutputsRefused s image e)
 
+-- the task's own files restore to this checkpoint: the image has it, each changelog has as many records as it counts, and each
+-- output's file is a log
+pub record FilesHold (s : Setup) (image : Image) (mark : Option Checkpoint) : Type 0 where
+  pub marked : IsMarked s image mark
+  pub counts : CountsHold image mark (length s.stores)
+  pub outputs : OutputsHold image (length s.outputs)
+
 -- the input isn't read: the device, want of memory, or its partition's file is no log
 abbrev pub WhyNoInput : Type 0 → List ℕ → ℕ → OpenFault → Type 0
 WhyNoInput tells bytes partition Device = Unit {0}
-WhyNoInput tells bytes partition (Damaged input file at) = (input ≡ Some 0) × (file ≡ partition) × (tells → HasNoLog bytes)
+WhyNoInput tells bytes partition (Damaged input file at) = (input ≡ Some 0) × (file ≡ partition) × (tells → IsNoLogAt bytes at)
 WhyNoInput tells bytes partition NoMemory = Unit {0}
 WhyNoInput tells bytes partition e = ⊥

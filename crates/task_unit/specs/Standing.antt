@@ -1,5 +1,5 @@
 -- A task's logs as they stand open on its disk.
-use Rattle.std.specs.Prelude.{ℕ, ◌≡◌, ◌<◌, ◌≤◌, false, List, length, Option, slice_index_or}
+use Rattle.std.specs.Prelude.{ℕ, ◌≡◌, ◌≢◌, ◌<◌, ◌≤◌, ◌+◌, ◌⊎◌, false, List, length, Option, slice_index_or}
 use Rattle.samza_model.specs.declared.messages.Record.{Record}
 use Rattle.samza_model.specs.declared.checkpoints.Checkpoint.{Checkpoint}
 use Rattle.samza_model.specs.declared.setups.Setup.{Setup}
@@ -51,6 +51,20 @@ pub record HoldsOutputs (before reads : Image) (images : Image → Type 0) (n : 
 -- the files from this one on read the same
 abbrev pub SameFrom : ℕ → Image → Image → Type 0
 SameFrom file old new = (f : ℕ) → file ≤ f → new f ≡ old f
+
+-- the files that are none of so many from this one on read the same
+abbrev pub SameOutside : ℕ → ℕ → Image → Image → Type 0
+SameOutside first n old new = (f : ℕ) → (f < first) ⊎ (first + n ≤ f) → new f ≡ old f
+
+-- the file is none of a task's, which has so many stores and outputs
+pub record IsOther (stores outputs file : ℕ) : Type 0 where
+  pub no_mark : file ≢ checkpoint_file
+  pub no_changelog : (i : ℕ) → i < stores → file ≢ changelog_file i
+  pub no_output : (j : ℕ) → j < outputs → file ≢ output_file j
+
+-- the files that are none of the task's read the same
+abbrev pub OthersStay : ℕ → ℕ → Image → Image → Type 0
+OthersStay stores outputs old new = (file : ℕ) → IsOther stores outputs file → new file ≡ old file
 
 -- the logs are open as they were found, and the stores have their contents at the checkpoint
 pub record IsRestored (s : Setup) (before reads : Image) (images : Image → Type 0) (mark : Option Checkpoint) (marks : Log) (changelogs outputs : List Log) (stores : List Content) : Type 0 where

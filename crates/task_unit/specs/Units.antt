@@ -1,5 +1,5 @@
 -- A task's unit: what it holds, what stands on its disk, and what its calls do.
-use Rattle.std.specs.Prelude.{◌⊎◌, ◌↔◌, ℕ, ◌≡◌, ◌<◌, ◌≤◌, ◌+◌, ◌-◌, Bool, false, List, [], ◌++◌, length, Option, Some, None, slice_get, slice_index_or}
+use Rattle.std.specs.Prelude.{◌⊎◌, ◌↔◌, ℕ, ◌≡◌, ◌<◌, ◌≤◌, ◌+◌, ◌-◌, ◌^◌, Bool, false, List, [], ◌++◌, length, Option, Some, None, slice_get, slice_index_or}
 use Rattle.std.specs.List.{AllByRecursion}
 use Rattle.std.specs.FinMap as fin
 use Rattle.std.specs.Coded.{Coded, coded_list, coded_ℕ}
@@ -16,10 +16,11 @@ use Rattle.samza_model.specs.Content.{Content, State, foldrec, sent_at, store_at
 use Rattle.samza_model.specs.Files.{Image, checkpoint_file, changelog_file, output_file}
 use Rattle.samza_model.specs.Logs.{joined, HasFrames, HasLog}
 use Rattle.samza_model.specs.Meaning.{Meaning}
-use Rattle.samza_model.specs.Restored.{HasMark, IsNamed, Restores, id_of, next_at, count_at, IsMarked}
+use Rattle.samza_model.specs.Restored.{HasMark, IsNamed, Restores, id_of, next_at, count_at}
 use Rattle.samza_model.specs.Runs.{runs}
 use Rattle.kv_store.specs.Tracked.{Tracked, AgreesOnClean}
 use Rattle.topic_log.specs.declared.logs.Log.{Log}
+use Rattle.topic_log.specs.Opened.{size_of}
 use Rattle.task_unit.specs.declared.acting.Holdings.{Holdings}
 use Rattle.task_unit.specs.declared.writing.Logs.{Logs}
 use Rattle.task_unit.specs.Acting.{held, undos_of, IsSized}
@@ -27,7 +28,7 @@ use Rattle.task_unit.specs.Appending.{AreOpen}
 use Rattle.task_unit.specs.Held.{Held, tracked_at, unlogged_at}
 use Rattle.task_unit.specs.declared.faults.OpenFault.{OpenFault}
 use Rattle.task_unit.specs.declared.faults.OpenFault.TheVariants.{Ahead}
-use Rattle.task_unit.specs.Refused.{CountsHold, WhyRefused, WhyNoInput}
+use Rattle.task_unit.specs.Refused.{CountsHold, FilesHold, WhyRefused, WhyNoInput}
 use Rattle.task_unit.specs.Standing.{IsOpenAt}
 use Rattle.task_unit.specs.Touched.{acts_of, touched, keys_in, records_of}
 use Rattle.task_unit.specs.Written.{AreSound}
@@ -59,8 +60,20 @@ pub record OnDisk (reads : Image) (images : Image → Type 0) (s : Setup) (logs 
   pub stores : (i : ℕ) (d : Log) → i < length s.stores → StoreStands reads images (changelog_file i) (count_at mark i) (slice_index_or logs.changelogs.items i d) (tracked_at h.stores i)
   pub outputs : AreOpen reads images (output_file 0) logs.outputs.items
 
+-- a count of the records that each output's log grew by
+abbrev pub appended_at : List ℕ → ℕ → ℕ
+appended_at appended j = slice_index_or appended j 0
+
+-- no log grew by more records than a file may have bytes
+abbrev pub AreFew : List ℕ → Type 0
+AreFew appended = (j : ℕ) → j < length appended → appended_at appended j ≤ 2 ^ 40
+
+-- no log grew by more records than its file has bytes
+abbrev pub AreWithin : List ℕ → List Log → Type 0
+AreWithin appended logs = (j : ℕ) (d : Log) → j < length logs → appended_at appended j ≤ size_of (slice_index_or logs j d)
+
 -- what a unit keeps
-pub record IsUnit {D : Type 0} (tells : Type 0) (reads : D → Image) (images : D → Image → Type 0) (s : Setup) (disk : D) (logs : Logs) (mark : Option Checkpoint) (h : Holdings) (messages : List Record) (begun next : ℕ) (broken : Bool) : Type 0 where
+pub record IsUnit {D : Type 0} (tells : Type 0) (reads : D → Image) (images : D → Image → Type 0) (s : Setup) (disk : D) (logs : Logs) (mark : Option Checkpoint) (h : Holdings) (messages : List Record) (begun next : ℕ) (appended : List ℕ) (broken : Bool) : Type 0 where
   pub set_up : IsSetUp s
   pub sized : IsSized s (held h)
   pub idle : undos_of h ≡ []
@@ -70,6 +83,9 @@ pub record IsUnit {D : Type 0} (tells : Type 0) (reads : D → Image) (images : 
   pub within : next ≤ length messages
   pub sound : broken ≡ false → AreSound logs
   pub stands : broken ≡ false → tells → OnDisk (reads disk) (images disk) s logs mark (held h)
+  pub appended_are : length appended ≡ length s.outputs
+  pub few_appended : AreFew appended
+  pub appended_within : broken ≡ false → AreWithin appended logs.outputs.items
 
 -- each output's log has what it had, followed by what was sent
 abbrev pub SendsFollow : Image → Image → Setup → List (List Record) → Type 0
@@ -133,10 +149,16 @@ pub record UnitValue (P D S : Type 0) : Type 0 where
   -- what a commit will append of each store: one record for each key that was set or taken away since the last commit, in the
   -- keys' order, with its value now
   pub unlogged : List (List Record)
+  -- how many records the commits since the opening appended to each output
+  pub appended : List ℕ
   -- the last checkpoint
   pub mark : Option Checkpoint
   -- a commit was begun and not finished
   pub broken : Bool
+
+-- each output's count is the one before and what was sent
+abbrev pub Counts : Setup → List ℕ → List ℕ → List (List Record) → Type 0
+Counts s before after sent = (j : ℕ) → j < length s.outputs → appended_at after j ≡ appended_at before j + length (sent_at sent j)
 
 -- nothing was sent to an output since the last commit
 abbrev pub NothingUnsent : Setup → List (List Record) → Type 0
@@ -175,10 +197,16 @@ pub record IsFailed (job : Meaning) (s : Setup) (messages : List Record) (begun 
   pub turn_is : f.turn ≡ Call (next - begun)
   pub place_is : f.place ≡ Some (0, next)
 
--- the checkpoint's offset of the input passes the input's end
+-- the task's own files restore to a checkpoint, and its input isn't read
+pub record InputRefused (tells told : Type 0) (s : Setup) (image : Image) (bytes : List ℕ) (e : OpenFault) : Type 0 where
+  pub mark : Option Checkpoint
+  pub hold : tells → FilesHold s image mark
+  pub why : WhyNoInput told bytes (input_of s).ssp.partition e
+
+-- the task's own files restore to a checkpoint, its input is read, and the checkpoint's offset of the input passes the input's end
 pub record IsPastEnd (tells told : Type 0) (s : Setup) (image : Image) (bytes : List ℕ) (e : OpenFault) : Type 0 where
   pub mark : Option Checkpoint
-  pub marked : tells → IsMarked s image mark
+  pub hold : tells → FilesHold s image mark
   pub records : List Record
   pub read : told → HasLog bytes records
   pub next : ℕ
@@ -187,6 +215,7 @@ pub record IsPastEnd (tells told : Type 0) (s : Setup) (image : Image) (bytes : 
   pub past : length records < next
   pub fault : e ≡ Ahead (Some 0) None next (length records)
 
--- why a task isn't opened: its files don't restore, its input isn't read, or the kept offset passes the input's end
+-- why a task isn't opened, the first cause in the order of work: its own files don't restore, its input isn't read, or the kept
+-- offset passes the input's end
 abbrev pub WhyNotOpened : Type 0 → Type 0 → Setup → Image → List ℕ → OpenFault → Type 0
-WhyNotOpened tells told s image bytes e = (tells → WhyRefused s image e) ⊎ (WhyNoInput told bytes (input_of s).ssp.partition e ⊎ IsPastEnd tells told s image bytes e)
+WhyNotOpened tells told s image bytes e = (tells → WhyRefused s image e) ⊎ (InputRefused tells told s image bytes e ⊎ IsPastEnd tells told s image bytes e)

@@ -13,7 +13,8 @@ ghost use Rattle.task_unit.specs.Crashes.{KeepsEach};
 ghost use Rattle.task_unit.specs.Acting.{held, undos_of, IsSized};
 ghost use Rattle.task_unit.specs.Held.{AreClean, state_of};
 ghost use Rattle.task_unit.specs.Refused.{CountsHold, WhyNoInput};
-ghost use Rattle.task_unit.specs.Units.{IsSetUp, LogsStay, IsMessage, OnDisk, input_of, WhyNotOpened};
+ghost use Rattle.task_unit.specs.Standing.{OthersStay};
+ghost use Rattle.task_unit.specs.Units.{IsSetUp, LogsStay, IsMessage, OnDisk, appended_at, input_of, WhyNotOpened};
 ghost use Rattle.task_unit.specs.Written.{AreSound};
 
 use crate::OpenFault;
@@ -37,6 +38,7 @@ pub(crate) struct Started {
     pub(crate) holdings: Holdings,
     pub(crate) messages: Vec<Record>,
     pub(crate) next: u64,
+    pub(crate) appended: Vec<u64>,
 }
 
 /// The input's message at an offset, with its place.
@@ -71,6 +73,18 @@ fn no_sends(alloc: Global, outputs: usize) -> Result<Vec<Sends>, NoMemory>
         unsent.push(Sends::new(alloc))?;
     }
     Ok(unsent)
+}
+
+/// A count of 0 for each output.
+fn no_counts(alloc: Global, outputs: usize) -> Result<Vec<u64>, NoMemory>
+    ensures as_many { IfOk result (λ r. length r.items ≡ outputs) }
+    ensures none { IfOk result (λ r. (j : ℕ) → j < outputs → appended_at r.items j ≡ 0) }
+{
+    let mut counts = Vec::new(alloc);
+    for _j in 0..outputs {
+        counts.push(0)?;
+    }
+    Ok(counts)
 }
 
 /// An input's first offset: the kept one, unless there is none or the input is reset.
@@ -170,6 +184,7 @@ pub(crate) fn start<D: Disk, S: Shelf>(
     ensures restored { IfOk result (λ r. D.tells → Restores setup.now (D.reads disk.old) r.mark (state_of (held r.holdings)).stores) }
     ensures counts { IfOk result (λ r. D.tells → CountsHold (D.reads disk.old) r.mark (length setup.now.stores)) }
     ensures logs_stay { OnOk result (D.tells → LogsStay setup.now (D.reads disk.old) (D.reads disk.new)) }
+    ensures others { OnOk result (D.tells → OthersStay (length setup.now.stores) (length setup.now.outputs) (D.reads disk.old) (D.reads disk.new)) }
     ensures unsent { IfOk result (λ r. (j : ℕ) → j < length setup.now.outputs → sent_at (held r.holdings).unsent j ≡ []) }
     ensures messages { IfOk result (λ r. S.tells → HasLog (S.bytes shelf.old) r.messages.items) }
     ensures start { IfOk result (λ r. r.next ≡ start_of (next_at r.mark 0) (input_of setup.now) (record { first = 0; records = r.messages.items })) }
@@ -180,6 +195,8 @@ pub(crate) fn start<D: Disk, S: Shelf>(
     ensures changelogs { IfOk result (λ r. length r.logs.changelogs.items ≡ length setup.now.stores) }
     ensures outputs { IfOk result (λ r. length r.logs.outputs.items ≡ length setup.now.outputs) }
     ensures sound { IfOk result (λ r. AreSound r.logs) }
+    ensures appended { IfOk result (λ r. length r.appended.items ≡ length setup.now.outputs) }
+    ensures none_appended { IfOk result (λ r. (j : ℕ) → j < length setup.now.outputs → appended_at r.appended.items j ≡ 0) }
     ensures why { IfErr result (λ e. WhyNotOpened D.tells S.tells setup.now (D.reads disk.old) (S.bytes shelf.old) e) }
     ensures durable { IfOk result (λ r. D.tells → (c : Image) → D.images disk.new c → Restores setup.now c r.mark (state_of (held r.holdings)).stores) }
     ensures any_moment { D.tells → LeavesOnly D.call_number D.images D.images_since disk.old disk.new KeepsEach }
@@ -209,11 +226,16 @@ pub(crate) fn start<D: Disk, S: Shelf>(
         Ok(holdings) => holdings,
         Err(_) => return Err(OpenFault::NoMemory),
     };
+    let appended = match no_counts(alloc, setup.outputs.as_slice().len()) {
+        Ok(appended) => appended,
+        Err(_) => return Err(OpenFault::NoMemory),
+    };
     Ok(Started {
         logs: restored.logs,
         mark: restored.mark,
         holdings,
         messages,
         next,
+        appended,
     })
 }

@@ -1,5 +1,5 @@
 // A commit: planned in memory, written to the logs, and then nothing is dirty or unsent.
-ghost use Rattle.std.specs.Prelude.{◌≡◌, ◌≢◌, ◌+◌, ◌<◌, ◌∷◌, [], ℕ, length, map, Some, IfOk, IfErr};
+ghost use Rattle.std.specs.Prelude.{◌≡◌, ◌≢◌, ◌+◌, ◌<◌, ◌^◌, ◌∷◌, [], ℕ, length, map, Some, IfOk, IfErr};
 ghost use Rattle.samza_model.specs.declared.messages.Record.{Record};
 ghost use Rattle.samza_model.specs.Checkpoint.{Spells};
 ghost use Rattle.samza_model.specs.Content.{sent_at};
@@ -10,7 +10,7 @@ ghost use Rattle.topic_log.specs.Opened.{count_of};
 ghost use Rattle.task_unit.specs.Acting.{held, IsSized};
 ghost use Rattle.task_unit.specs.Held.{tracked_at, contents_of};
 ghost use Rattle.task_unit.specs.Planned.{PlansStores, PlansSends};
-ghost use Rattle.task_unit.specs.Units.{IsSetUp};
+ghost use Rattle.task_unit.specs.Units.{IsSetUp, appended_at};
 
 use crate::acting::Holdings;
 use crate::planning::{make_mark, mark_frame, plan_sends, plan_stores};
@@ -66,6 +66,18 @@ pub(crate) fn flush_all(stores: &mut Vec<TrackedTable>)
 {
     for i in 0..stores.len() {
         stores[i].flushed();
+    }
+}
+
+/// The counts of what was appended to each output, with what was unsent.
+pub(crate) fn count_all(appended: &mut Vec<u64>, unsent: &[Sends])
+    requires as_many { length unsent.now ≡ length appended.old.items }
+    requires few { (j : ℕ) → j < length unsent.now → appended_at appended.old.items j + length (sent_at unsent.now j) < 2 ^ 64 }
+    ensures as_many { length appended.new.items ≡ length appended.old.items }
+    ensures counted { (j : ℕ) → j < length unsent.now → appended_at appended.new.items j ≡ appended_at appended.old.items j + length (sent_at unsent.now j) }
+{
+    for j in 0..appended.len() {
+        appended[j] += unsent[j].as_slice().len() as u64;
     }
 }
 

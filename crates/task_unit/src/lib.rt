@@ -18,4 +18,4 @@ mod writing;
 
 pub use faults::{CommitFault, OneFault, OpenFault};
 pub use laws::{open_one_opens_or_says_why, opens_or_says_why, restores_to_one};
-pub use units::{Mark, OneUnit};
+pub use units::{LaneState, Mark, OneUnit};

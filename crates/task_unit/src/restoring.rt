@@ -10,7 +10,7 @@ ghost use Rattle.kv_store.specs.Tracked.{no_keys};
 ghost use Rattle.task_unit.specs.Held.{AreClean, contents_of};
 ghost use Rattle.topic_log.specs.Opened.{file_of, is_broken, IsOpen};
 ghost use Rattle.task_unit.specs.Crashes.{KeepsEach};
-ghost use Rattle.task_unit.specs.Standing.{StandsAt, HoldsStore, HoldsMark, HoldsStores, HoldsOutputs, IsRestored, SameFrom};
+ghost use Rattle.task_unit.specs.Standing.{StandsAt, HoldsStore, HoldsMark, HoldsStores, HoldsOutputs, IsRestored, OthersStay, SameFrom, SameOutside};
 ghost use Rattle.task_unit.specs.Written.{AllSound, AreSound};
 ghost use Rattle.task_unit.specs.Refused.{IsMiscount, IsOpeningOf, WhyNoFile, WhyNoMark, WhyNoStore, WhyNoStores, WhyNoOutputs, WhyRefused};
 
@@ -226,7 +226,7 @@ fn open_outputs<D: Disk>(alloc: Global, disk: &mut D, outputs: u32) -> Result<Ve
     ensures outputs { IfOk result (λ r. D.tells → HoldsOutputs (D.reads disk.old) (D.reads disk.new) (D.images disk.new) outputs r.items) }
     ensures sizes { IfOk result (λ r. length r.items ≡ outputs) }
     ensures sound { IfOk result (λ r. AllSound r.items) }
-    ensures behind { OnOk result (D.tells → SameFrom (output_file outputs) (D.reads disk.old) (D.reads disk.new)) }
+    ensures elsewhere { OnOk result (D.tells → SameOutside (output_file 0) outputs (D.reads disk.old) (D.reads disk.new)) }
     ensures others { OnOk result (D.tells → (log : Log) (frames : List (List Record)) → file_of log < output_file 0 → IsOpen (D.reads disk.old) (D.images disk.old) log frames → IsOpen (D.reads disk.new) (D.images disk.new) log frames) }
     ensures why { IfErr result (λ e. D.tells → WhyNoOutputs (D.reads disk.old) outputs e) }
     ensures any_moment { D.tells → LeavesOnly D.call_number D.images D.images_since disk.old disk.new KeepsEach }
@@ -257,6 +257,7 @@ pub(crate) fn restore<D: Disk>(
     requires few_stores { length setup.now.stores ≤ 8 }
     requires few_outputs { length setup.now.outputs ≤ 8 }
     ensures restored { IfOk result (λ r. D.tells → IsRestored setup.now (D.reads disk.old) (D.reads disk.new) (D.images disk.new) r.mark r.logs.marks r.logs.changelogs.items r.logs.outputs.items (contents_of r.tables.items)) }
+    ensures others { OnOk result (D.tells → OthersStay (length setup.now.stores) (length setup.now.outputs) (D.reads disk.old) (D.reads disk.new)) }
     ensures tables { IfOk result (λ r. length r.tables.items ≡ length setup.now.stores) }
     ensures clean { IfOk result (λ r. AreClean r.tables.items) }
     ensures changelogs { IfOk result (λ r. length r.logs.changelogs.items ≡ length setup.now.stores) }

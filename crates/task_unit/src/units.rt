@@ -1,20 +1,22 @@
 // One task's unit: it restores from its files, processes its messages in order, and commits.
 ghost use Rattle.std.specs.Prelude.{◌≡◌, ◌≢◌, ◌≤◌, ◌<◌, ◌+◌, ◌⊎◌, ◌↔◌, ℕ, [], true, false, List, length, Option, Some, None, IfOk, IfErr, OnOk, OnErr, Err};
+ghost use Rattle.std.specs.FinMap as map;
 ghost use Rattle.samza_model.specs.Counters.{Rose};
 ghost use Rattle.samza_model.specs.declared.checkpoints.Checkpoint.{Checkpoint as CheckpointValue};
 ghost use Rattle.samza_model.specs.declared.turns.Failure.{Failure as FailureValue};
-ghost use Rattle.samza_model.specs.Content.{Content};
+ghost use Rattle.samza_model.specs.Content.{Content, sent_at, store_at};
 ghost use Rattle.samza_model.specs.Files.{Image};
 ghost use Rattle.samza_model.specs.Logs.{HasLog};
-ghost use Rattle.samza_model.specs.Restored.{Restores, next_at, start_of};
+ghost use Rattle.samza_model.specs.Restored.{Restores, id_of, next_at, start_of};
 ghost use Rattle.disk_model.specs.Images.{LeavesOnly};
 ghost use Rattle.task_unit.specs.Growth.{PassesLimit};
 ghost use Rattle.task_unit.specs.Refused.{CountsHold};
-ghost use Rattle.task_unit.specs.Units.{IsSetUp, LogsStay, IsCommitted, CommitLeaves, IsProcessed, IsFailed, NothingUnsent, NothingUnlogged, OpeningLeaves, input_of, WhyNotOpened};
+ghost use Rattle.task_unit.specs.Standing.{OthersStay};
+ghost use Rattle.task_unit.specs.Units.{IsSetUp, LogsStay, IsCommitted, CommitLeaves, Counts, appended_at, IsProcessed, IsFailed, NothingUnsent, NothingUnlogged, OpeningLeaves, input_of, WhyNotOpened};
 
 use crate::acting::Holdings;
 use crate::beginning::{envelope_at, start};
-use crate::committing::{clear_all, flush_all, plan_commit};
+use crate::committing::{clear_all, count_all, flush_all, plan_commit};
 use crate::writing::Logs;
 use crate::{CommitFault, OneFault, OpenFault};
 use disk_model::{Disk, Shelf};
@@ -26,6 +28,19 @@ use std::marker::Model;
 #[derive(Clone, Copy, Debug, PartialEq, Eq)]
 pub struct Mark {
     pub id: u64,
+}
+
+/// How far a unit came in its input, by offsets.
+#[derive(Clone, Copy, Debug, PartialEq, Eq)]
+pub struct LaneState {
+    /// Where it began.
+    pub start: u64,
+    /// The first offset that isn't done.
+    pub low: u64,
+    /// The next message's.
+    pub next: u64,
+    /// One more than the last message's.
+    pub end: u64,
 }
 
 /// One task: its job, its stores, its input and its logs.
@@ -42,6 +57,7 @@ pub struct OneUnit<'j, J: Job, D: Disk, S: Shelf> {
     messages: Vec<Record>,
     begun: u64,
     next: u64,
+    appended: Vec<u64>,
     broken: bool,
 }
 
@@ -55,9 +71,9 @@ impl<'j, J: Job, D: Disk, S: Shelf> Model for OneUnit<'j, J, D, S> {
 
     ghost coded = { Prim.hlevel (codes, content_code) };
 
-    ghost view = { λ u. record { job = J.plain u.job.now; setup = u.setup; disk = u.disk; shelf = u.shelf; messages = u.messages.items; begun = u.begun; next = u.next; state = state_of (held u.holdings); unlogged = unlogged_of (held u.holdings).stores; mark = u.mark; broken = u.broken } };
+    ghost view = { λ u. record { job = J.plain u.job.now; setup = u.setup; disk = u.disk; shelf = u.shelf; messages = u.messages.items; begun = u.begun; next = u.next; state = state_of (held u.holdings); unlogged = unlogged_of (held u.holdings).stores; appended = u.appended.items; mark = u.mark; broken = u.broken } };
 
-    ghost invariant = { λ u. IsUnit D.tells D.reads D.images u.setup u.disk u.logs u.mark u.holdings u.messages.items u.begun u.next u.broken };
+    ghost invariant = { λ u. IsUnit D.tells D.reads D.images u.setup u.disk u.logs u.mark u.holdings u.messages.items u.begun u.next u.appended.items u.broken };
 }
 
 impl<'j, J: Job, D: Disk, S: Shelf> OneUnit<'j, J, D, S> {
@@ -75,9 +91,12 @@ impl<'j, J: Job, D: Disk, S: Shelf> OneUnit<'j, J, D, S> {
         ensures outputs { IfOk result (λ u. length u.state.sent ≡ length setup.outputs) }
         ensures unsent { IfOk result (λ u. NothingUnsent setup u.state.sent) }
         ensures unlogged { IfOk result (λ u. NothingUnlogged setup u.unlogged) }
+        ensures none_appended { IfOk result (λ u. (j : ℕ) → j < length setup.outputs → appended_at u.appended j ≡ 0) }
         ensures messages { IfOk result (λ u. S.tells → HasLog (S.bytes shelf) u.messages) }
         ensures start { IfOk result (λ u. (u.next ≡ start_of (next_at u.mark 0) (input_of setup) (record { first = 0; records = u.messages })) × (u.begun ≡ u.next)) }
         ensures logs_stay { IfOk result (λ u. D.tells → LogsStay setup (D.reads disk) (D.reads u.disk)) }
+        // The files that are none of the task's are as before.
+        ensures others { IfOk result (λ u. D.tells → OthersStay (length setup.stores) (length setup.outputs) (D.reads disk) (D.reads u.disk)) }
         // After Ok every image restores as the unit did.
         ensures durable { IfOk result (λ u. D.tells → (c : Image) → D.images u.disk c → Restores setup c u.mark u.state.stores) }
         // A crash at any moment leaves files that restore as before.
@@ -108,6 +127,7 @@ impl<'j, J: Job, D: Disk, S: Shelf> OneUnit<'j, J, D, S> {
                 messages: started.messages,
                 begun: started.next,
                 next: started.next,
+                appended: started.appended,
                 broken: false,
             }),
             Err(fault) => Err((fault, disk, shelf)),
@@ -125,6 +145,7 @@ impl<'j, J: Job, D: Disk, S: Shelf> OneUnit<'j, J, D, S> {
         ensures disk { self.new.disk ≡ self.old.disk }
         ensures shelf { self.new.shelf ≡ self.old.shelf }
         ensures mark { (self.new.mark ≡ self.old.mark) × (self.new.broken ≡ self.old.broken) }
+        ensures appended { self.new.appended ≡ self.old.appended }
     {
         let envelope = match envelope_at(
             self.alloc,
@@ -154,6 +175,8 @@ impl<'j, J: Job, D: Disk, S: Shelf> OneUnit<'j, J, D, S> {
     /// anything is written. After `Device` the unit is broken, and answers `Broken` from then on.
     pub fn commit(&mut self) -> Result<Mark, CommitFault>
         ensures committed { OnOk result (D.tells → (made : CheckpointValue) × (self.new.mark ≡ Some made) × IsCommitted self.old.setup (D.reads self.old.disk) (D.reads self.new.disk) self.old.mark self.old.next self.old.state made) }
+        // The files that are none of the task's are as before.
+        ensures others { OnOk result (D.tells → OthersStay (length self.old.setup.stores) (length self.old.setup.outputs) (D.reads self.old.disk) (D.reads self.new.disk)) }
         // After Ok every image has the next checkpoint.
         ensures durable { OnOk result (D.tells → (made : CheckpointValue) × (self.new.mark ≡ Some made) × ((c : Image) → D.images self.new.disk c → IsCommitted self.old.setup (D.reads self.old.disk) c self.old.mark self.old.next self.old.state made)) }
         // A crash at any moment leaves the checkpoint before with its contents, or the next one with the unit's.
@@ -162,9 +185,10 @@ impl<'j, J: Job, D: Disk, S: Shelf> OneUnit<'j, J, D, S> {
         ensures answered { IfOk result (λ m. (made : CheckpointValue) × (self.new.mark ≡ Some made) × (m.id ≡ made.id)) }
         ensures cleared { OnOk result (NothingUnsent self.old.setup self.new.state.sent) }
         ensures flushed { OnOk result (NothingUnlogged self.old.setup self.new.unlogged) }
+        ensures counted { OnOk result (Counts self.old.setup self.old.appended self.new.appended self.old.state.sent) }
         ensures given { (self.new.job ≡ self.old.job) × (self.new.setup ≡ self.old.setup) × (self.new.shelf ≡ self.old.shelf) × (self.new.messages ≡ self.old.messages) × (self.new.begun ≡ self.old.begun) }
         ensures kept { (self.new.next ≡ self.old.next) × (self.new.state.stores ≡ self.old.state.stores) }
-        ensures unmade { OnErr result ((self.new.state ≡ self.old.state) × (self.new.unlogged ≡ self.old.unlogged) × (self.new.mark ≡ self.old.mark)) }
+        ensures unmade { OnErr result ((self.new.state ≡ self.old.state) × (self.new.unlogged ≡ self.old.unlogged) × (self.new.mark ≡ self.old.mark) × (self.new.appended ≡ self.old.appended)) }
         ensures refused { IfErr result (λ e. e ≢ CommitFault.Device → self.new ≡ self.old) }
 
         ensures limit { IfErr result (λ e. e ≡ CommitFault.Limit → D.tells → PassesLimit self.old.setup (D.reads self.old.disk) self.old.unlogged self.old.state.sent) }
@@ -198,12 +222,61 @@ impl<'j, J: Job, D: Disk, S: Shelf> OneUnit<'j, J, D, S> {
             Ok(()) => {}
             Err(fault) => return Err(fault),
         }
+        count_all(&mut self.appended, self.holdings.unsent.as_slice());
         flush_all(&mut self.holdings.stores);
         clear_all(&mut self.holdings.unsent);
         let mark = Mark { id: made.id };
         self.mark = Some(made);
         self.broken = false;
         Ok(mark)
+    }
+
+    /// How far the unit came in its input.
+    pub fn lane(&self) -> LaneState
+        ensures lane { result ≡ record { start = self.now.begun; low = self.now.next; next = self.now.next; end = length self.now.messages } }
+        ensures ordered { (result.start ≤ result.low) × (result.next ≤ result.end) }
+    {
+        LaneState {
+            start: self.begun,
+            low: self.next,
+            next: self.next,
+            end: self.messages.len() as u64,
+        }
+    }
+
+    /// How many keys a store holds.
+    pub fn keys(&self, store: u32) -> u64
+        requires { store < length self.now.setup.stores }
+        ensures { result ≡ map.len (store_at self.now.state.stores store) }
+    {
+        self.holdings.stores[store as usize].len()
+    }
+
+    /// How many records an output was sent since the opening, committed or not.
+    pub fn sent(&self, output: u32) -> u64
+        requires { output < length self.now.setup.outputs }
+        ensures { result ≡ appended_at self.now.appended output + length (sent_at self.now.state.sent output) }
+    {
+        let unsent = self.holdings.unsent[output as usize].as_slice().len() as u64;
+        self.appended[output as usize] + unsent
+    }
+
+    /// The setup that the unit was given.
+    pub fn setup(&self) -> &Setup
+        ensures setup { result.now ≡ self.now.setup }
+        ensures set_up { IsSetUp self.now.setup }
+    {
+        &self.setup
+    }
+
+    /// The number of the last checkpoint, or 0 where there is none.
+    pub fn last_id(&self) -> u64
+        ensures { result ≡ id_of self.now.mark }
+    {
+        match &self.mark {
+            Some(mark) => mark.id,
+            None => 0,
+        }
     }
 
     /// The disk and the shelf, given back.

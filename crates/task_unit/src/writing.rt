@@ -1,16 +1,16 @@
 // A task's logs, and what a commit writes to them.
 ghost use Rattle.std.specs.Prelude.{◌≡◌, ◌≢◌, ◌≤◌, ◌∷◌, [], ℕ, true, false, List, length, IfErr, OnOk};
 ghost use Rattle.samza_model.specs.Counters.{Rose};
-ghost use Rattle.disk_model.specs.Images.{LeavesOnly};
+ghost use Rattle.disk_model.specs.Images.{LeavesOnly, SameElsewhere};
 ghost use Rattle.log_frame.specs.Frame.{IsFrame};
 ghost use Rattle.samza_model.specs.declared.messages.Record.{Record};
 ghost use Rattle.samza_model.specs.Files.{checkpoint_file};
 ghost use Rattle.topic_log.specs.declared.logs.Log.{Log as LogValue};
 ghost use Rattle.topic_log.specs.Opened.{file_of, is_broken, IsOpen, Appends};
 ghost use Rattle.task_unit.specs.Crashes.{TaskFrames, PlanRecords, StandWith, IsPlanOf, WriteLeaves};
-ghost use Rattle.task_unit.specs.Standing.{IsOpenAt};
+ghost use Rattle.task_unit.specs.Standing.{IsOpenAt, OthersStay};
 ghost use Rattle.task_unit.specs.Written.{AreSound, StandOpen, IsPlanFor, IsRoomFor, IsNoRoomFor, MarksAppended, Follows};
-ghost use Rattle.task_unit.specs.Room.{HasRoom};
+ghost use Rattle.task_unit.specs.Room.{HasRoom, HaveGrown};
 
 use crate::CommitFault;
 use crate::appending::append_each;
@@ -47,6 +47,7 @@ fn append_mark<D: Disk>(disk: &mut D, marks: &mut Log, frame: &Frame) -> Result<
     ensures others { D.tells → (log : LogValue) (frames : List (List Record)) → file_of log ≢ checkpoint_file → IsOpen (D.reads disk.old) (D.images disk.old) log frames → IsOpen (D.reads disk.new) (D.images disk.new) log frames }
     ensures any_moment { D.tells → (before : List (List Record)) (records : List Record) → IsOpenAt (D.reads disk.old) (D.images disk.old) checkpoint_file marks.old before → IsFrame frame.now records
         → LeavesOnly D.call_number D.images D.images_since disk.old disk.new (Appends checkpoint_file before (records ∷ [])) }
+    ensures elsewhere { OnOk result (D.tells → SameElsewhere checkpoint_file (D.reads disk.old) (D.reads disk.new)) }
     ensures sound { OnOk result (is_broken marks.new ≡ false) }
     ensures device { IfErr result (λ e. (e ≡ CommitFault.Device) × Rose (D.fault_count disk.old) (D.fault_count disk.new)) }
     ensures later { D.fault_count disk.old ≤ D.fault_count disk.new }
@@ -86,8 +87,10 @@ impl Logs {
         // A crash at any moment leaves the checkpoint file as it was, or all of the plan.
         ensures any_moment { D.tells → (had : TaskFrames) (more : PlanRecords) → StandWith (D.reads disk.old) (D.images disk.old) self.old had → IsPlanOf self.old plan.now more
             → LeavesOnly D.call_number D.images D.images_since disk.old disk.new (WriteLeaves (length self.old.changelogs.items) (length self.old.outputs.items) had more) }
+        ensures grown { OnOk result (HaveGrown self.old.outputs.items self.new.outputs.items plan.now.sends.items) }
         ensures changelogs { length self.new.changelogs.items ≡ length self.old.changelogs.items }
         ensures outputs { length self.new.outputs.items ≡ length self.old.outputs.items }
+        ensures others { OnOk result (D.tells → OthersStay (length self.old.changelogs.items) (length self.old.outputs.items) (D.reads disk.old) (D.reads disk.new)) }
         ensures sound { OnOk result (AreSound self.new) }
         ensures device { IfErr result (λ e. (e ≡ CommitFault.Device) × Rose (D.fault_count disk.old) (D.fault_count disk.new)) }
         ensures later { D.fault_count disk.old ≤ D.fault_count disk.new }

@@ -3,7 +3,7 @@ use Rattle.samza_model.specs.declared.messages.Record.{Record}
 use Rattle.samza_model.specs.declared.setups.InputSetup.{InputSetup}
 use Rattle.task_unit.specs.declared.faults.OpenFault.TheVariants.{Ahead}
 use Rattle.task_unit.specs.Refused.{WhyNoInput}
-use Rattle.task_unit.proofs.Whole.{marked}
+use Rattle.task_unit.proofs.Whole.{files_hold}
 use Rattle.samza_model.specs.Restored.{next_at, start_of}
 use Rattle.kv_store.specs.Tracked.{Tracked}
 use Rattle.task_unit.specs.Acting.{held}
@@ -54,7 +54,13 @@ returns-in-Err-clause-why g c = inl c.in-Err.ensures.why
 
 pub returns-in-Err-read_input-clause-why : goal.returns-in-Err-read_input-clause-why
 returns-in-Err-read_input-clause-why g c =
-    inr (inl (subst (λ (i : InputSetup). WhyNoInput g.S.Shelf.tells (g.S.Shelf.bytes c.args.shelf.now) i.ssp.partition c.in-Err-read_input.fault) c.first_input-input.ensures c.in-Err-read_input.ensures.why))
+    let disk = g.D.Disk in
+    let r = c.in-Ok.restored in
+    inr (inl (record {
+      mark = r.mark;
+      hold = λ told. files_hold c.args.setup.now (disk.reads c.args.disk.now) (disk.reads c.restore.new.disk) (disk.images c.restore.new.disk) r.mark r.logs.marks r.logs.changelogs.items r.logs.outputs.items (contents_of r.tables.items) (c.in-Ok.ensures.restored told);
+      why = subst (λ (i : InputSetup). WhyNoInput g.S.Shelf.tells (g.S.Shelf.bytes c.args.shelf.now) i.ssp.partition c.in-Err-read_input.fault) c.first_input-input.ensures c.in-Err-read_input.ensures.why;
+    }))
 
 pub returns-in-Err-first_offset-clause-why : goal.returns-in-Err-first_offset-clause-why
 returns-in-Err-first_offset-clause-why g c =
@@ -66,7 +72,7 @@ returns-in-Err-first_offset-clause-why g c =
     let end : length c.as_slice.result.now ≡ length records = ap (λ (l : List Record). length l) c.as_slice.ensures.value in
     inr (inr (record {
       mark = r.mark;
-      marked = λ told. marked s (disk.reads c.args.disk.now) (disk.reads c.restore.new.disk) (disk.images c.restore.new.disk) r.logs.marks r.mark (c.in-Ok.ensures.restored told).mark_is;
+      hold = λ told. files_hold s (disk.reads c.args.disk.now) (disk.reads c.restore.new.disk) (disk.images c.restore.new.disk) r.mark r.logs.marks r.logs.changelogs.items r.logs.outputs.items (contents_of r.tables.items) (c.in-Ok.ensures.restored told);
       records = records;
       read = c.in-Ok-read_input.ensures.log;
       next = a.0;

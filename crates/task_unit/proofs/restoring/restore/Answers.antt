@@ -1,11 +1,12 @@
 use Rattle.std.proofs.Common.{ℕ, List, length, inl, inr, subst}
 use Rattle.samza_model.specs.declared.setups.StoreSetup.{StoreSetup}
-use Rattle.samza_model.specs.Files.{changelog_file}
+use Rattle.samza_model.specs.Files.{changelog_file, output_file}
 use Rattle.task_unit.specs.Refused.{WhyNoStores, WhyNoOutputs}
-use Rattle.task_unit.specs.Standing.{HoldsStores, HoldsOutputs, SameFrom}
+use Rattle.task_unit.specs.Standing.{HoldsStores, HoldsOutputs, SameFrom, SameOutside}
 use Rattle.task_unit.specs.Held.{contents_of}
 use Rattle.task_unit.proofs.Whole.{marked, stores_refused, counts_before, outputs_refused, mark_whole, stores_whole, outputs_whole}
 use Rattle.task_unit.proofs.Reopening.{kept_then}
+use Rattle.task_unit.proofs.Others.{opened_others}
 use Rattle.task_unit.proofs.restoring.restore.Goals as goal
 
 pub returns-in-Err-open_stores-clause-why : goal.returns-in-Err-open_stores-clause-why
@@ -84,3 +85,14 @@ returns-clause-any_moment g c = λ told.
     let d1 = c.open_marks.new.disk in
     let d2 = c.open_stores.new.disk in
     kept_then disk.reads disk.call_number disk.images disk.images_since d0 d2 c.open_outputs.new.disk (λ k f le left. law.counts_now d2 k f told le left) (kept_then disk.reads disk.call_number disk.images disk.images_since d0 d1 d2 (λ k f le left. law.counts_now d1 k f told le left) (c.open_marks.ensures.any_moment told) (c.open_stores.ensures.any_moment told)) (c.open_outputs.ensures.any_moment told)
+
+pub returns-clause-others : goal.returns-clause-others
+returns-clause-others g c = λ told.
+    let disk = g.D.Disk in
+    let s = c.args.setup.now in
+    let r1 = disk.reads c.open_marks.new.disk in
+    let r2 = disk.reads c.open_stores.new.disk in
+    let r3 = disk.reads c.open_outputs.new.disk in
+    let behind = subst (λ (xs : List StoreSetup). SameFrom (changelog_file (length xs)) r1 r2) c.as_slice.ensures (c.in-Ok-open_stores.ensures.behind told) in
+    let outside = subst (λ (xs : List (List ℕ)). SameOutside (output_file 0) (length xs) r2 r3) c.as_slice-2.ensures (c.in-Ok-open_outputs.ensures.elsewhere told) in
+    opened_others (length s.stores) (length s.outputs) (disk.reads c.args.disk.now) r1 r2 r3 (c.in-Ok.ensures.elsewhere told) behind outside

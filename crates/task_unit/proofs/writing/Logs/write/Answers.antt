@@ -4,6 +4,7 @@ use Rattle.log_frame.specs.Frame.{FrameView, AreFrames}
 use Rattle.task_unit.specs.Crashes.{AreFramesOf}
 use Rattle.task_unit.proofs.Moments.{outputs_left, changelogs_at, changelogs_left, marks_still, mark_left}
 use Rattle.task_unit.proofs.Kept.{changelogs_stay, output_stays, mark_stays, below_stays, above_stays}
+use Rattle.task_unit.proofs.Others.{written_others}
 use Rattle.task_unit.proofs.writing.Logs.write.Goals as goal
 
 pub append_each-requires-clause-open : goal.append_each-requires-clause-open
@@ -152,3 +153,16 @@ returns-in-Err-append_mark-clause-any_moment g c told had more stand plan =
     (outputs_left disk.reads disk.call_number disk.images disk.images_since d0 d1 d2 d3 logs sends changes had more few stand are_sends are_changes (c.append_each.ensures.any_moment told (output_file 0) had.outputs more.sends stand.outputs are_sends))
     (c.append_each-2.ensures.any_moment told (changelog_file 0) had.changelogs more.changes (changelogs_at disk.reads disk.call_number disk.images disk.images_since d0 d1 d2 d3 logs sends changes had more few stand are_sends are_changes outputs others appended (λ k f le left. law.counts_now d1 k f told le left)) are_changes))
     (c.append_mark.ensures.any_moment told had.marks (more.mark ∷ []) (marks_still disk.reads disk.call_number disk.images disk.images_since d0 d1 d2 d3 logs sends changes had more few stand are_sends are_changes outputs others appended (λ k f le left. law.counts_now d1 k f told le left) changelogs others' appended' (λ k f le left. law.counts_now d2 k f told le left)) plan.mark)
+
+pub returns-clause-others : goal.returns-clause-others
+returns-clause-others g c = λ told.
+    let disk = g.D.Disk in
+    let o = c.requires.open told in
+    let cl = c.args.self.now.changelogs.items in
+    let os = c.args.self.now.outputs.items in
+    let r0 = disk.reads c.args.disk.now in
+    let r1 = disk.reads c.append_each.new.disk in
+    let r2 = disk.reads c.append_each-2.new.disk in
+    let stand = changelogs_stay r0 r1 (disk.images c.args.disk.now) (disk.images c.append_each.new.disk) os o.outputs (c.in-Ok.ensures.others told) cl c.requires.planned.few o.changelogs in
+    written_others (length cl) (length os) r0 r1 r2 (disk.reads c.append_mark.new.disk)
+    (c.in-Ok.ensures.elsewhere told (output_file 0) o.outputs) (c.in-Ok-append_each.ensures.elsewhere told (changelog_file 0) stand) (c.in-Ok-append_mark.ensures.elsewhere told)
