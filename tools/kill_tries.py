@@ -5,8 +5,9 @@
 
 Each try begins with a folder that was run once, to which messages were added. The program is started on it and killed. Its
 files must then restore to the checkpoint before or to the next one, with just that checkpoint's counts, and the output must
-have what it had, or that followed by all that the added messages send. Run again, the program must come to the input's end, or
-refuse a changelog that is ahead of its checkpoint (status 6), which the program can't take back yet.
+have what it had, or that followed by all that the added messages send. Run again, the program must come to the input's end and
+print the report of that, or refuse a changelog that is ahead of its checkpoint (status 6), which the program can't take back
+yet.
 
 A killed process leaves what it wrote, so this is no test of a loss of power.
 """
@@ -59,7 +60,21 @@ def folded(records):
 
 
 def run(program, folder):
-    return subprocess.run([program, "run", folder], stdout=subprocess.DEVNULL, stderr=subprocess.DEVNULL).returncode
+    """The status of a whole run, and what it printed on both streams."""
+    done = subprocess.run([program, "run", folder], capture_output=True)
+    return done.returncode, done.stdout, done.stderr
+
+
+def report(checkpoint, new, end, store, sent):
+    lines = [
+        "container 0 tasks 1",
+        f"Partition 0 checkpoint {checkpoint} new {new}",
+        f"  input kafka.lines 0 next {end} end {end}",
+        f"  store counts keys {len(store)}",
+        f"  output kafka.totals sent {sent}",
+        f"total new {new}",
+    ]
+    return "".join(line + "\n" for line in lines).encode()
 
 
 class Tries:
@@ -73,7 +88,8 @@ class Tries:
         os.makedirs(os.path.dirname(lines))
         shutil.copy(CONFIGURATION, self.base)
         self.write(lines, self.all[:BEFORE])
-        assert run(program, self.base) == 0, "the first run"
+        first = report(1, BEFORE, BEFORE, self.stores[1], 4 * BEFORE)
+        assert run(program, self.base) == (0, first, b""), "the first run"
         self.write(lines, self.all)
 
     def write(self, path, records):
@@ -107,11 +123,14 @@ class Tries:
         process.kill()
         process.wait()
         number, ahead = self.restored(folder)
-        status = run(self.program, folder)
+        status, out, err = run(self.program, folder)
         if ahead:
             assert status == 6, f"status {status} with a changelog ahead of its checkpoint"
+            assert out == b"" and err.startswith(b"tail: Partition 0: "), (out, err)
             return "refused: the changelog was ahead"
         assert status == 0, f"status {status} after checkpoint {number}"
+        left = BEFORE + ADDED - BEFORE * number
+        assert (out, err) == (report(number + 1, left, BEFORE + ADDED, self.stores[2], 4 * left), b""), (out, err)
         last, mark = topicfile.checkpoints(os.path.join(folder, "tasks", "0", "0.log"))[-1]
         assert last == number + 1 and mark["inputs"][0][2] == BEFORE + ADDED, mark
         assert folded(log_of(os.path.join(folder, "tasks", "0", "1.log"))) == self.stores[2], "the store behind the last run"
@@ -126,7 +145,8 @@ def main(words):
         all_tries = Tries(program, place)
         shutil.copytree(all_tries.base, os.path.join(place, "whole"))
         begun = time.time()
-        assert run(program, os.path.join(place, "whole")) == 0, "a whole second run"
+        second = report(2, ADDED, BEFORE + ADDED, all_tries.stores[2], 4 * ADDED)
+        assert run(program, os.path.join(place, "whole")) == (0, second, b""), "a whole second run"
         whole = time.time() - begun
         # half of the moments lie towards the run's end, where it commits
         seen = collections.Counter(all_tries.one(draw.uniform(0.7 * (n % 2), 1.1) * whole) for n in range(tries))

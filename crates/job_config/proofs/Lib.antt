@@ -1,7 +1,10 @@
 pub mod Each
 pub mod Entries
+pub mod Kept
 pub mod Once
 pub mod Places
 pub mod Spelled
 pub mod StoreNames
+pub mod Topics
 pub mod Unread
+pub mod Yields

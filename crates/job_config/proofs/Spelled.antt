@@ -13,11 +13,11 @@ topic_then name dot system rest b is_dot is_sys is_rest tested is =
     let t : is_stream (drop 1 rest) ≡ is_stream (after_first (λ c. c == 46) name) = ap is_stream (ap (drop 1) is_rest ∙ drop-drop 1 dot name ∙ ap (λ (k : ℕ). drop (k + 1) name) is_dot) in
     is ∙ t ∙ sym (ap (λ (x : Bool). x && is_stream (after_first (λ c. c == 46) name)) s)
 
-and_left : (a b : Bool) → (a && b) ≡ true → a ≡ true
+pub and_left : (a b : Bool) → (a && b) ≡ true → a ≡ true
 and_left true b is = refl
 and_left false b is = is
 
-and_right : (a b : Bool) → (a && b) ≡ true → b ≡ true
+pub and_right : (a b : Bool) → (a && b) ≡ true → b ≡ true
 and_right true b is = is
 and_right false b is = absurd cc
 

@@ -1,4 +1,5 @@
 pub mod Asking
+pub mod Bounds
 pub mod Keys
 pub mod Lists
 pub mod Numbers

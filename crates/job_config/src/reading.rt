@@ -3,6 +3,7 @@ ghost use Rattle.std.specs.Prelude.{◌≡◌, ◌++◌, Ok, IfOk, IfErr, OnOk};
 ghost use Rattle.std.specs.List.{list_any};
 ghost use Rattle.job_config.specs.Values.{same};
 ghost use Rattle.job_config.specs.Table.{unread, config_of};
+ghost use Rattle.job_config.specs.Bounds.{IsBounded};
 ghost use Rattle.job_config.specs.Parts.{if_unread, IsWritten};
 ghost use Rattle.job_config.specs.Outcome.{IsFault};
 
@@ -73,6 +74,7 @@ impl JobConfig {
     #[tactic(auto, unfolding(crate::specs::Table::config_of))]
     pub fn from_pairs(alloc: Global, pairs: &Pairs) -> Result<JobConfig, ConfigFault>
         ensures config { IfOk result (λ config. config_of pairs.now ≡ Ok config) }
+        ensures bounded { IfOk result IsBounded }
         ensures refused { IfErr result (λ fault. IsFault fault (config_of pairs.now)) }
     {
         let mut asked = Vec::new(alloc);

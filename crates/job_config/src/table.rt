@@ -1,5 +1,7 @@
 // The table of a job's configuration.
+ghost use Rattle.std.specs.Prelude.{IfOk};
 ghost use Rattle.job_config.specs.Asking.{Gives};
+ghost use Rattle.job_config.specs.Bounds.{IsBounded};
 ghost use Rattle.job_config.specs.Table.{class_row, table};
 
 use crate::config::JobConfig;
@@ -37,7 +39,8 @@ fn class_row(
 /// The rows of the table, one after another.
 #[tactic(auto, unfolding(crate::specs::Table::table))]
 pub(crate) fn table(alloc: Global, pairs: &Pairs, asked: &mut Asked) -> Result<JobConfig, RowFault>
-    ensures { Gives asked.new.items result (table pairs.now asked.old.items) }
+    ensures rows { Gives asked.new.items result (table pairs.now asked.old.items) }
+    ensures bounded { IfOk result IsBounded }
 {
     let job = rows::job_name(alloc, pairs, asked, Setting::JobName)?;
     let shipped = rows::class(alloc, pairs, asked, Setting::TaskClass)?;

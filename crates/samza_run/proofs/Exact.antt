@@ -1,5 +1,5 @@
 -- A folder is run to its end, or there is a cause why not, and never both.
-use Rattle.std.proofs.Common.{ℕ, zero, suc, ◌≡◌, ◌≢◌, ◌≤◌, ◌⊎◌, List, [], ◌∷◌, length, take, codes, Option, Some, None, inl, inr, refl, sym, subst, ap, ◌∙◌, arith}
+use Rattle.std.proofs.Common.{ℕ, zero, suc, ◌≡◌, ◌≢◌, ◌≤◌, ◌⊎◌, List, [], ◌∷◌, length, take, codes, Option, Result, Ok, Err, inl, inr, refl, sym, subst, ap, ◌∙◌, arith}
 use Rattle.samza_model.specs.declared.messages.Record.{Record}
 use Rattle.samza_model.specs.declared.checkpoints.Checkpoint.{Checkpoint}
 use Rattle.samza_model.specs.declared.setups.Setup.{Setup}
@@ -11,14 +11,14 @@ use Rattle.samza_model.specs.Restored.{next_at, start_of}
 use Rattle.shipped_jobs.specs.WordCount.{word_count}
 use Rattle.topic_log.proofs.Spelling.{log_unique}
 use Rattle.task_unit.specs.declared.faults.OpenFault.{OpenFault}
-use Rattle.task_unit.specs.declared.faults.OpenFault.TheVariants.{Device as OpenDevice, Damaged, Shape, Ahead, Tail, Limit as OpenLimit, NoMemory as OpenNoMemory}
 use Rattle.task_unit.specs.Opens.{Opens}
 use Rattle.task_unit.specs.Units.{IsMessage, WhyNotOpened, input_of}
 use Rattle.task_unit.proofs.Exact.{restores_one, not_kept_shut}
+use Rattle.task_unit.proofs.OneCause.{one_cause}
 use Rattle.samza_run.specs.declared.faults.RunFault.{RunFault}
-use Rattle.samza_run.specs.declared.faults.RunFault.TheVariants.{Words, NoText, NotBuilt, NoPartition, Device, NotOpened, Failed, Limit, NoMemory}
-use Rattle.samza_run.specs.Causes.{Folder, IsReady, WhyNotReady, WhyStopped, WhyUnfinished, open_status, status_of}
-use Rattle.samza_run.specs.Configured.{word_count_text, word_count_setup}
+use Rattle.samza_run.specs.declared.faults.RunFault.TheVariants.{Words, NoText, TextLimit, BadEscape, BadKey, NotBuilt, NoPartition, Device, NotOpened, Failed, Limit, NoMemory}
+use Rattle.samza_run.specs.Causes.{IsReady, IsRun, WhyNotReady, WhyStopped, WhyUnfinished, open_status, status_of}
+use Rattle.samza_run.specs.Configured.{Folder, set_up_by, input_disk, task_disk}
 use Rattle.samza_run.specs.Runs.{fresh, Does, Fails, Fills, FillsFrom, Ran, Reaches}
 use Rattle.samza_run.specs.Words.{IsFolder, IsCommand, BeginsCommand, IsRefusedAt}
 use Rattle.samza_run.proofs.Advancing.{undone}
@@ -40,19 +40,32 @@ not_words (word ∷ folder ∷ []) place is why =
     ]
 not_words (word ∷ folder ∷ more ∷ words) place is why = is
 
-not_unready : (f : Folder) (e : RunFault) → IsReady f → status_of e ≢ 4 → status_of e ≢ 8 → WhyNotReady f e → ⊥
-not_unready f (Words place) ready device memory why = why
-not_unready f NoText ready device memory why = let both : ◌≡◌ {A = Option (List ℕ)} (Some word_count_text) None = sym ready.0 ∙ why in cc
-not_unready f (NotBuilt key) ready device memory (inl h) =
-    let both : ◌≡◌ {A = Option (List ℕ)} (Some h.1.0) (Some word_count_text) = sym h.1.1 ∙ ready.0 in
-    h.1.2 (cc both)
-not_unready f (NotBuilt key) ready device memory (inr h) = absurd (omega (arith, h.2, ready.1))
-not_unready f NoPartition ready device memory why = absurd (omega (arith, why.1, ready.1))
-not_unready f Device ready device memory why = device refl
-not_unready f (NotOpened e) ready device memory why = why
-not_unready f (Failed why') ready device memory why = why
-not_unready f Limit ready device memory why = why
-not_unready f NoMemory ready device memory why = memory refl
+-- beside a device and memory, what isn't ready is said so
+unready_said : (f : Folder) (e : RunFault) → status_of e ≢ 4 → status_of e ≢ 8 → WhyNotReady f e → set_up_by f ≡ Err e
+unready_said f (Words place) device memory why = why
+unready_said f NoText device memory why = why
+unready_said f TextLimit device memory why = why
+unready_said f (BadEscape line) device memory why = why
+unready_said f (BadKey key what) device memory why = why
+unready_said f (NotBuilt key) device memory why = why
+unready_said f NoPartition device memory why = why
+unready_said f Device device memory why = absurd (device refl)
+unready_said f (NotOpened o) device memory why = why
+unready_said f (Failed f') device memory why = why
+unready_said f Limit device memory why = why
+unready_said f NoMemory device memory why = absurd (memory refl)
+
+not_both : (r : Result Setup RunFault) (s : Setup) (e : RunFault) → r ≡ Ok s → r ≡ Err e → ⊥
+not_both r s e ok err = let both : ◌≡◌ {A = Result Setup RunFault} (Ok s) (Err e) = sym ok ∙ err in cc
+
+one_setup : (r : Result Setup RunFault) (s t : Setup) → r ≡ Ok s → r ≡ Ok t → s ≡ t
+one_setup r s t is is' = let both : ◌≡◌ {A = Result Setup RunFault} (Ok s) (Ok t) = sym is ∙ is' in cc both
+
+one_fault : (r : Result Setup RunFault) (e e' : RunFault) → r ≡ Err e → r ≡ Err e' → e ≡ e'
+one_fault r e e' is is' = let both : ◌≡◌ {A = Result Setup RunFault} (Err e) (Err e') = sym is ∙ is' in cc both
+
+not_unready : (f : Folder) (s : Setup) (e : RunFault) → IsReady f s → status_of e ≢ 4 → status_of e ≢ 8 → WhyNotReady f e → ⊥
+not_unready f s e ready device memory why = not_both (set_up_by f) s e ready (unready_said f e device memory why)
 
 module _ (job : Meaning) (s : Setup) (input : List ℕ) (before : Image) (mark : Option Checkpoint) (messages : List Record) (begun : ℕ) where
   reached_opens : (next : ℕ) (state : State) → Reaches job s input before mark messages begun next state → Opens s before input
@@ -106,10 +119,20 @@ not_shut : (s : Setup) (input : List ℕ) (before : Image) (o : OpenFault) → o
 not_shut s input before o device memory opens why =
     not_kept_shut (Unit {0}) (Unit {0}) s before input o tt tt (λ same. device (ap open_status same)) (λ same. memory (ap open_status same)) opens why
 
+-- a task has one cause not to be opened
+one_shut : (s : Setup) (input : List ℕ) (before : Image) (o o' : OpenFault) → open_status o ≢ 4 → open_status o ≢ 8 → open_status o' ≢ 4 → open_status o' ≢ 8
+    → WhyNotOpened (Unit {0}) (Unit {0}) s before input o → WhyNotOpened (Unit {0}) (Unit {0}) s before input o' → o ≡ o'
+one_shut s input before o o' device memory device' memory' why why' =
+    one_cause (Unit {0}) (Unit {0}) s before input o o' tt tt
+    (λ same. device (ap open_status same)) (λ same. memory (ap open_status same)) (λ same. device' (ap open_status same)) (λ same. memory' (ap open_status same)) why why'
+
 not_unfinished : (job : Meaning) (s : Setup) (input : List ℕ) (before after : Image) (e : RunFault) → Ran job s input before after
     → status_of e ≢ 4 → status_of e ≢ 8 → WhyUnfinished job s input before e → ⊥
 not_unfinished job s input before after (Words place) ran device memory why = why
 not_unfinished job s input before after NoText ran device memory why = why
+not_unfinished job s input before after TextLimit ran device memory why = why
+not_unfinished job s input before after (BadEscape line) ran device memory why = why
+not_unfinished job s input before after (BadKey key what) ran device memory why = why
 not_unfinished job s input before after (NotBuilt key) ran device memory why = why
 not_unfinished job s input before after NoPartition ran device memory why = why
 not_unfinished job s input before after Device ran device memory why = device refl
@@ -119,29 +142,9 @@ not_unfinished job s input before after (Failed f) ran device memory why = not_f
 not_unfinished job s input before after Limit ran device memory why = not_full job s input before ran.mark ran.messages ran.begun ran.state ran.reached ran.room why
 not_unfinished job s input before after NoMemory ran device memory why = memory refl
 
--- a task's limit is no cause not to open it
-never_full : (s : Setup) (input : List ℕ) (before : Image) → WhyNotOpened (Unit {0}) (Unit {0}) s before input OpenLimit → ⊥
-never_full s input before (inl why) =
-    elim (why tt) [
-      | inl no_mark ↦ no_mark
-      | inr (inl stores) ↦ stores.why.why
-      | inr (inr outputs) ↦ outputs.why.why
-    ]
-never_full s input before (inr (inl why)) = why
-never_full s input before (inr (inr past)) = let e : OpenLimit ≡ Ahead (Some 0) None past.next (length past.records) = past.fault in cc
-
-shut_is : (s : Setup) (input : List ℕ) (before : Image) (o : OpenFault) → open_status o ≢ 4 → open_status o ≢ 8 → WhyNotOpened (Unit {0}) (Unit {0}) s before input o → open_status o ≡ 6
-shut_is s input before OpenDevice device memory why = absurd (device refl)
-shut_is s input before (Damaged i file at) device memory why = refl
-shut_is s input before Shape device memory why = refl
-shut_is s input before (Ahead i n wanted held) device memory why = refl
-shut_is s input before (Tail n wanted held) device memory why = refl
-shut_is s input before OpenLimit device memory why = absurd (never_full s input before why)
-shut_is s input before OpenNoMemory device memory why = absurd (memory refl)
-
 -- how a task isn't run to its end, with the status that tells it
 data Ending (job : Meaning) (s : Setup) (input : List ℕ) (before : Image) (status : ℕ) : Type 0 where
-  shut : status ≡ 6 → (Opens s before input → ⊥) → Ending job s input before status
+  shut : (o : OpenFault) → open_status o ≢ 4 → open_status o ≢ 8 → status ≡ open_status o → WhyNotOpened (Unit {0}) (Unit {0}) s before input o → Ending job s input before status
   failing : (f : Failure) → status ≡ 5 → Fails job s input before f → Ending job s input before status
   full : status ≡ 9 → Fills job s input before → Ending job s input before status
 
@@ -149,10 +152,13 @@ module _ (job : Meaning) (s : Setup) (input : List ℕ) (before : Image) where
   ending : (e : RunFault) → status_of e ≢ 4 → status_of e ≢ 8 → WhyUnfinished job s input before e → Ending job s input before (status_of e)
   ending (Words place) device memory why = absurd why
   ending NoText device memory why = absurd why
+  ending TextLimit device memory why = absurd why
+  ending (BadEscape line) device memory why = absurd why
+  ending (BadKey key what) device memory why = absurd why
   ending (NotBuilt key) device memory why = absurd why
   ending NoPartition device memory why = absurd why
   ending Device device memory why = absurd (device refl)
-  ending (NotOpened o) device memory why = shut (shut_is s input before o device memory why) (λ opens. not_shut s input before o device memory opens why)
+  ending (NotOpened o) device memory why = shut o device memory refl why
   ending (Failed f) device memory why = failing f refl why
   ending Limit device memory why = full refl why
   ending NoMemory device memory why = absurd (memory refl)
@@ -167,64 +173,63 @@ module _ (job : Meaning) (s : Setup) (input : List ℕ) (before : Image) where
   fails_or_fills f fails fills = not_failed job s input before fills.mark fills.messages fills.begun fills.state f fills.reached fails
 
   one_ending : (a b : ℕ) → Ending job s input before a → Ending job s input before b → a ≡ b
-  one_ending a b (shut is denied) (shut is' denied') = is ∙ sym is'
-  one_ending a b (shut is denied) (failing f is' fails) = absurd (denied (fails_opens f fails))
-  one_ending a b (shut is denied) (full is' fills) = absurd (denied (fills_opens fills))
-  one_ending a b (failing f is fails) (shut is' denied) = absurd (denied (fails_opens f fails))
+  one_ending a b (shut o device memory is why) (shut o' device' memory' is' why') = is ∙ ap open_status (one_shut s input before o o' device memory device' memory' why why') ∙ sym is'
+  one_ending a b (shut o device memory is why) (failing f is' fails) = absurd (not_shut s input before o device memory (fails_opens f fails) why)
+  one_ending a b (shut o device memory is why) (full is' fills) = absurd (not_shut s input before o device memory (fills_opens fills) why)
+  one_ending a b (failing f is fails) (shut o device memory is' why) = absurd (not_shut s input before o device memory (fails_opens f fails) why)
   one_ending a b (failing f is fails) (failing f' is' fails') = is ∙ sym is'
   one_ending a b (failing f is fails) (full is' fills) = absurd (fails_or_fills f fails fills)
-  one_ending a b (full is fills) (shut is' denied) = absurd (denied (fills_opens fills))
+  one_ending a b (full is fills) (shut o device memory is' why) = absurd (not_shut s input before o device memory (fills_opens fills) why)
   one_ending a b (full is fills) (failing f is' fails) = absurd (fails_or_fills f fails fills)
   one_ending a b (full is fills) (full is' fills') = is ∙ sym is'
 
-unready_is : (f : Folder) (e : RunFault) → status_of e ≢ 4 → status_of e ≢ 8 → WhyNotReady f e → status_of e ≡ 3
-unready_is f (Words place) device memory why = absurd why
-unready_is f NoText device memory why = refl
-unready_is f (NotBuilt key) device memory why = refl
-unready_is f NoPartition device memory why = refl
-unready_is f Device device memory why = absurd (device refl)
-unready_is f (NotOpened e) device memory why = absurd why
-unready_is f (Failed why') device memory why = absurd why
-unready_is f Limit device memory why = absurd why
-unready_is f NoMemory device memory why = absurd (memory refl)
-
 -- why a folder whose words are a command isn't run to its end
 WhyPastWords : Folder → RunFault → Type 0
-WhyPastWords f e = WhyNotReady f e ⊎ (IsReady f × WhyUnfinished word_count word_count_setup f.input f.task e)
+WhyPastWords f e = WhyNotReady f e ⊎ ((s : Setup) × IsReady f s × WhyUnfinished word_count s (f.disks (input_disk s) 0) (f.disks task_disk) e)
 
 past_words : (words : List (List ℕ)) (f : Folder) (e : RunFault) → IsCommand words → WhyStopped words f e → WhyPastWords f e
 unfolding WhyPastWords
 past_words words f (Words place) is why = absurd (not_words words place is why)
 past_words words f NoText is why = why
+past_words words f TextLimit is why = why
+past_words words f (BadEscape line) is why = why
+past_words words f (BadKey key what) is why = why
 past_words words f (NotBuilt key) is why = why
 past_words words f NoPartition is why = why
 past_words words f Device is why = why
-past_words words f (NotOpened e) is why = why
-past_words words f (Failed why') is why = why
+past_words words f (NotOpened o) is why = why
+past_words words f (Failed f') is why = why
 past_words words f Limit is why = why
 past_words words f NoMemory is why = why
+
+-- the same setup's task isn't run to its end
+same_setup : (f : Folder) (e : RunFault) (s t : Setup) → s ≡ t → WhyUnfinished word_count s (f.disks (input_disk s) 0) (f.disks task_disk) e → WhyUnfinished word_count t (f.disks (input_disk t) 0) (f.disks task_disk) e
+same_setup f e s t is = subst (λ (x : Setup). WhyUnfinished word_count x (f.disks (input_disk x) 0) (f.disks task_disk) e) is
 
 module _ (f : Folder) (e e' : RunFault) (device : status_of e ≢ 4) (memory : status_of e ≢ 8) (device' : status_of e' ≢ 4) (memory' : status_of e' ≢ 8) where
   one_past_words : WhyPastWords f e → WhyPastWords f e' → status_of e ≡ status_of e'
   unfolding WhyPastWords
-  one_past_words (inl why) (inl why') = unready_is f e device memory why ∙ sym (unready_is f e' device' memory' why')
-  one_past_words (inl why) (inr why') = absurd (not_unready f e why'.0 device memory why)
-  one_past_words (inr why) (inl why') = absurd (not_unready f e' why.0 device' memory' why')
+  one_past_words (inl why) (inl why') = ap status_of (one_fault (set_up_by f) e e' (unready_said f e device memory why) (unready_said f e' device' memory' why'))
+  one_past_words (inl why) (inr why') = absurd (not_unready f why'.0 e why'.1 device memory why)
+  one_past_words (inr why) (inl why') = absurd (not_unready f why.0 e' why.1 device' memory' why')
   one_past_words (inr why) (inr why') =
-      one_ending word_count word_count_setup f.input f.task (status_of e) (status_of e')
-      (ending word_count word_count_setup f.input f.task e device memory why.1)
-      (ending word_count word_count_setup f.input f.task e' device' memory' why'.1)
+      let s = why.0 in
+      one_ending word_count s (f.disks (input_disk s) 0) (f.disks task_disk) (status_of e) (status_of e')
+      (ending word_count s (f.disks (input_disk s) 0) (f.disks task_disk) e device memory why.2)
+      (ending word_count s (f.disks (input_disk s) 0) (f.disks task_disk) e' device' memory' (same_setup f e' why'.0 s (one_setup (set_up_by f) why'.0 s why'.1 why.1) why'.2))
 
   -- two causes of one folder have one status
   pub one_status : (words : List (List ℕ)) → IsCommand words → WhyStopped words f e → WhyStopped words f e' → status_of e ≡ status_of e'
   one_status words is why why' = one_past_words (past_words words f e is why) (past_words words f e' is why')
 
 -- a folder that was run to its end has no cause to stop
-pub not_stopped : (words : List (List ℕ)) (f : Folder) (after : Image) (e : RunFault) → IsCommand words → IsReady f → Ran word_count word_count_setup f.input f.task after
-    → status_of e ≢ 4 → status_of e ≢ 8 → WhyStopped words f e → ⊥
+pub not_stopped : (words : List (List ℕ)) (f : Folder) (after : Image) (e : RunFault) → IsCommand words → IsRun f after → status_of e ≢ 4 → status_of e ≢ 8 → WhyStopped words f e → ⊥
 unfolding WhyPastWords
-not_stopped words f after e is ready ran device memory why =
+not_stopped words f after e is ran device memory why =
     elim (past_words words f e is why) [
-      | inl unready ↦ not_unready f e ready device memory unready
-      | inr unfinished ↦ not_unfinished word_count word_count_setup f.input f.task after e ran device memory unfinished.1
+      | inl unready ↦ not_unready f ran.0 e ran.1 device memory unready
+      | inr unfinished ↦
+          let s = ran.0 in
+          not_unfinished word_count s (f.disks (input_disk s) 0) (f.disks task_disk) after e ran.2 device memory
+          (same_setup f e unfinished.0 s (one_setup (set_up_by f) unfinished.0 s unfinished.1 ran.1) unfinished.2)
     ]

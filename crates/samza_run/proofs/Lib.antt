@@ -1,7 +1,11 @@
 mod Advancing
 mod Exact
+mod Leaving
+mod Naming
 mod Passing
 mod Ready
-pub mod Spelled
+mod Reporting
+pub mod Spelling
+mod Taking
 mod Told
 mod Working

@@ -22,6 +22,7 @@ advances_none job u none = record {
   disk = refl;
   shelf = refl;
   mark = (refl, refl);
+  appended = refl;
 }
 
 module _ {P D S : Type 0} (meaning : P → Meaning) (first now more : UnitValue P D S) (so_far : Advances (meaning first.job) first now)
@@ -32,8 +33,8 @@ module _ {P D S : Type 0} (meaning : P → Meaning) (first now more : UnitValue 
       (subst (λ j. IsProcessed (meaning j) now.setup now.messages now.next now.state now.unlogged more.next more.state more.unlogged) so_far.given.0 p))
 
   pub advances_more : (more.job ≡ now.job) × (more.setup ≡ now.setup) × (more.messages ≡ now.messages) × (more.begun ≡ now.begun) → more.disk ≡ now.disk → more.shelf ≡ now.shelf
-      → (more.mark ≡ now.mark) × (more.broken ≡ now.broken) → Advances (meaning first.job) first more
-  advances_more given disk shelf mark = record {
+      → (more.mark ≡ now.mark) × (more.broken ≡ now.broken) → more.appended ≡ now.appended → Advances (meaning first.job) first more
+  advances_more given disk shelf mark appended = record {
     does = subst (λ n. Does (meaning first.job) first.setup first.messages first.next n first.state more.state) (sym here.next_is)
         (does_more (meaning first.job) first.setup first.messages first.next now.next first.state now.state here.message so_far.does here.is_next more.state here.ended here.state_is);
     changes = subst (λ n. AreChanges (meaning first.job) first.setup first.messages first.next n first.state more.state more.unlogged) (sym here.next_is)
@@ -42,6 +43,7 @@ module _ {P D S : Type 0} (meaning : P → Meaning) (first now more : UnitValue 
     disk = disk ∙ so_far.disk;
     shelf = shelf ∙ so_far.shelf;
     mark = (mark.0 ∙ so_far.mark.0, mark.1 ∙ so_far.mark.1);
+    appended = appended ∙ so_far.appended;
   }
 
   pub stays_within : more.next ≤ length first.messages
@@ -77,7 +79,7 @@ module _ {P D S : Type 0} (meaning : P → Meaning) (reads : D → Image) (first
     (all : Advances (meaning first.job) first now) (end : now.next ≡ length first.messages)
     (committed : (made : Checkpoint) × (mark ≡ Some made) × IsCommitted now.setup (reads now.disk) after now.mark now.next now.state made)
     (room : PassesLimit now.setup (reads now.disk) now.unlogged now.state.sent → ⊥) where
-  pub finishes : Finishes (meaning first.job) first.setup first.messages first.next first.state (reads first.disk) after first.mark
+  unfoldable pub finishes : Finishes (meaning first.job) first.setup first.messages first.next first.state (reads first.disk) after first.mark
   finishes =
       let job = meaning first.job in
       let does = subst (λ n. Does job first.setup first.messages first.next n first.state now.state) end all.does in

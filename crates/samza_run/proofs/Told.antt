@@ -1,5 +1,5 @@
 -- Clauses over results, and over an outside that tells its bytes.
-use Rattle.std.proofs.Common.{ℕ, List, Result, Ok, Err, OnOk, IfErr, inl, inr}
+use Rattle.std.proofs.Common.{ℕ, List, Result, Ok, Err, IfOk, IfErr, inl, inr}
 use Rattle.samza_model.specs.declared.setups.Setup.{Setup}
 use Rattle.samza_model.specs.Files.{Image}
 use Rattle.task_unit.specs.declared.faults.OpenFault.{OpenFault}
@@ -7,9 +7,9 @@ use Rattle.task_unit.specs.declared.faults.OpenFault.TheVariants.{Device, Damage
 use Rattle.task_unit.specs.Refused.{WhyNoInput}
 use Rattle.task_unit.specs.Units.{WhyNotOpened}
 
-pub on_ok : {A E : Type 0} (r : Result A E) {P Q : Type 0} → (P → Q) → OnOk r P → OnOk r Q
-on_ok (Ok x) go p = go p
-on_ok (Err e) go p = tt
+pub if_ok : {A E : Type 0} (r : Result A E) {P Q : A → Type 0} → ((x : A) → P x → Q x) → IfOk r P → IfOk r Q
+if_ok (Ok x) go p = go x p
+if_ok (Err e) go p = tt
 
 pub if_err : {A E : Type 0} (r : Result A E) {P Q : E → Type 0} → ((e : E) → P e → Q e) → IfErr r P → IfErr r Q
 if_err (Ok x) go p = tt
@@ -18,6 +18,10 @@ if_err (Err e) go p = go e p
 pub if_err_both : {A E : Type 0} (r : Result A E) {P Q R : E → Type 0} → ((e : E) → P e → Q e → R e) → IfErr r P → IfErr r Q → IfErr r R
 if_err_both (Ok x) go p q = tt
 if_err_both (Err e) go p q = go e p q
+
+pub if_err_three : {A E : Type 0} (r : Result A E) {P Q R S : E → Type 0} → ((e : E) → P e → Q e → R e → S e) → IfErr r P → IfErr r Q → IfErr r R → IfErr r S
+if_err_three (Ok x) go p q r' = tt
+if_err_three (Err e) go p q r' = go e p q r'
 
 no_input_told : (tells : Type 0) (bytes : List ℕ) (partition : ℕ) (e : OpenFault) → tells → WhyNoInput tells bytes partition e → WhyNoInput (Unit {0}) bytes partition e
 no_input_told tells bytes partition Device told why = tt
@@ -31,10 +35,11 @@ no_input_told tells bytes partition NoMemory told why = tt
 -- the disk and the shelf tell their bytes
 pub opened_told : (tells told : Type 0) (s : Setup) (image : Image) (bytes : List ℕ) (e : OpenFault) → tells → told → WhyNotOpened tells told s image bytes e → WhyNotOpened (Unit {0}) (Unit {0}) s image bytes e
 opened_told tells told s image bytes e disk shelf (inl why) = inl (λ _. why disk)
-opened_told tells told s image bytes e disk shelf (inr (inl why)) = inr (inl (no_input_told told bytes _ e shelf why))
+opened_told tells told s image bytes e disk shelf (inr (inl why)) =
+    inr (inl (record { mark = why.mark; hold = λ _. why.hold disk; why = no_input_told told bytes _ e shelf why.why }))
 opened_told tells told s image bytes e disk shelf (inr (inr p)) = inr (inr (record {
   mark = p.mark;
-  marked = λ _. p.marked disk;
+  hold = λ _. p.hold disk;
   records = p.records;
   read = λ _. p.read shelf;
   next = p.next;

@@ -1,18 +1,22 @@
 -- A unit from its opening to its last commit.
-use Rattle.std.proofs.Common.{ℕ, suc, ◌≡◌, ◌<◌, ◌≤◌, ◌⊎◌, List, [], ◌∷◌, length, map, get_or, inl, inr, sym, subst, ap, ◌∙◌, refl, arith}
+use Rattle.std.proofs.Common.{ℕ, suc, ◌≡◌, ◌<◌, ◌≤◌, ◌+◌, ◌-◌, ◌⊎◌, List, [], ◌∷◌, length, map, get_or, inl, inr, sym, subst, ap, ◌∙◌, refl, arith}
 use Rattle.samza_model.specs.declared.messages.Record.{Record}
+use Rattle.samza_model.specs.declared.checkpoints.Checkpoint.{Checkpoint}
 use Rattle.samza_model.specs.declared.setups.Setup.{Setup}
-use Rattle.samza_model.specs.Content.{State, sent_at}
+use Rattle.samza_model.specs.Content.{Content, State, sent_at}
 use Rattle.samza_model.specs.Files.{Image, checkpoint_file, changelog_file, output_file}
 use Rattle.samza_model.specs.Logs.{HasLog}
 use Rattle.samza_model.specs.Meaning.{Meaning}
 use Rattle.samza_model.specs.Restored.{Restores, next_at, start_of}
 use Rattle.task_unit.specs.Growth.{Passes, PassesLimit}
 use Rattle.task_unit.specs.Refused.{CountsHold}
-use Rattle.task_unit.specs.Units.{UnitValue, IsFailed, LogsStay, SameFrames, input_of}
+use Rattle.task_unit.specs.Units.{UnitValue, CommitLeaves, IsCommitted, IsFailed, LogsStay, SameFrames, appended_at, input_of}
 use Rattle.samza_run.specs.declared.faults.RunFault.{RunFault}
-use Rattle.samza_run.specs.declared.faults.RunFault.TheVariants.{Words, NoText, NotBuilt, NoPartition, Device, NotOpened, Failed, Limit, NoMemory}
+use Rattle.samza_run.specs.declared.faults.RunFault.TheVariants.{Words, NoText, TextLimit, BadEscape, BadKey, NotBuilt, NoPartition, Device, NotOpened, Failed, Limit, NoMemory}
 use Rattle.samza_run.specs.Causes.{WhyNotFinished, WhyUnfinished}
+use Rattle.samza_run.specs.Leaves.{CommitsFrom, LeftInCommit}
+use Rattle.samza_run.specs.Reported.{FinishesWith, Reported}
+use Rattle.samza_run.proofs.Reporting.{tells_as}
 use Rattle.samza_run.specs.Runs.{fresh, AreChanges, Does, Reaches, Ran, FillsFrom, Finishes}
 
 -- as many lists as outputs, each of them empty
@@ -69,6 +73,9 @@ module _ {P D S : Type 0} (job : Meaning) (s : Setup) (bytes : List ℕ) (image 
     passes = passes_behind s image reads stay fills.unlogged fills.left.sent fills.passes;
   }
 
+  output_stays : (j : ℕ) → j < length s.outputs → (had : List Record) → HasLog (image (output_file j)) had → HasLog (reads (output_file j)) had
+  output_stays j lt had log = record { frames = log.frames; has = (stay.outputs j lt log.frames).0 log.has; records_are = log.records_are }
+
   reaches : (to : ℕ) (state : State) → Does job u.setup u.messages u.next to u.state state → Reaches job s bytes image u.mark u.messages u.begun to state
   reaches to state does = record {
     stores = u.state.stores;
@@ -81,32 +88,68 @@ module _ {P D S : Type 0} (job : Meaning) (s : Setup) (bytes : List ℕ) (image 
         (subst (λ old. Does job s u.messages u.next to old state) is_fresh (subst (λ t. Does job t u.messages u.next to u.state state) setup_is does));
   }
 
-  pub has_run : (after : Image) → Finishes job u.setup u.messages u.next u.state reads after u.mark → Ran job s bytes image after
+  -- what the commit made of the files as they are open, it made of them as they were found
+  committed_before : (after : Image) (next : ℕ) (state : State) (made : Checkpoint) → IsCommitted s reads after u.mark next state made → IsCommitted s image after u.mark next state made
+  committed_before after next state made c = record {
+    id_is = c.id_is;
+    next_is = c.next_is;
+    counts = c.counts;
+    restores = c.restores;
+    sends = λ j had lt log. c.sends j had lt (output_stays j lt had log);
+  }
+
+  leaves_before : (after : Image) (contents : List Content) (next : ℕ) (state : State) → CommitLeaves s reads after u.mark contents next state → CommitLeaves s image after u.mark contents next state
+  leaves_before after contents next state (inl un) = inl (record { restores = un.restores; sends = λ j had lt log. un.sends j had lt (output_stays j lt had log) })
+  leaves_before after contents next state (inr c) = inr (c.0, committed_before after next state c.0 c.1)
+
+  has_run : (after : Image) → Finishes job s u.messages u.next u.state reads after u.mark → Ran job s bytes image after
   unfolding reaches
-  has_run after done =
-      let f = subst (λ t. Finishes job t u.messages u.next u.state reads after u.mark) setup_is done in
-      let c = f.committed in
+  has_run after f = record {
+    mark = u.mark;
+    messages = u.messages;
+    begun = u.begun;
+    state = f.left;
+    reached = reaches (length u.messages) f.left (subst (λ t. Does job t u.messages u.next (length u.messages) u.state f.left) (sym setup_is) f.does);
+    room = λ fills. f.room (filled (subst (λ (begun : ℕ). FillsFrom job s image u.messages begun (fresh s u.state.stores)) start.1 fills));
+    made = f.made;
+    committed = committed_before after (length u.messages) f.left f.made f.committed;
+  }
+
+  -- what a crash left once the unit did all messages
+  pub left_in_commit : (after : Image) → CommitsFrom job u.setup u.messages u.next u.state reads u.mark u.state.stores after → LeftInCommit job s bytes image after
+  unfolding reaches
+  left_in_commit after f = record {
+    mark = u.mark;
+    messages = u.messages;
+    begun = u.begun;
+    state = f.left;
+    reached = reaches (length u.messages) f.left f.does;
+    leaves = leaves_before after u.state.stores (length u.messages) f.left (subst (λ t. CommitLeaves t reads after u.mark u.state.stores (length u.messages) f.left) setup_is f.leaves);
+  }
+
+  pub has_reported : (after : Image) (text : List ℕ) → ((j : ℕ) → j < length s.outputs → appended_at u.appended j ≡ 0)
+      → FinishesWith job u.setup u.messages u.begun u.next u.state reads after u.mark (appended_at u.appended) text → Reported job s bytes image after text
+  unfolding has_run
+  has_reported after text none done =
+      let w = subst (λ t. FinishesWith job t u.messages u.begun u.next u.state reads after u.mark (appended_at u.appended) text) setup_is done in
+      let f = w.finished in
+      let n = length u.messages in
+      let completed = n - u.begun in
       record {
-        mark = u.mark;
-        messages = u.messages;
-        begun = u.begun;
-        state = f.left;
-        reached = reaches (length u.messages) f.left (subst (λ t. Does job t u.messages u.next (length u.messages) u.state f.left) (sym setup_is) f.does);
-        room = λ fills. f.room (filled (subst (λ (begun : ℕ). FillsFrom job s image u.messages begun (fresh s u.state.stores)) start.1 fills));
-        made = f.made;
-        committed = record {
-          id_is = c.id_is;
-          next_is = c.next_is;
-          counts = c.counts;
-          restores = c.restores;
-          sends = λ j had lt log. c.sends j had lt (record { frames = log.frames; has = (stay.outputs j lt log.frames).0 log.has; records_are = log.records_are });
-        };
+        ran = has_run after f;
+        report = w.report;
+        tells = tells_as s s f.made.id f.made.id completed completed n n n n f.left.stores f.left.stores (λ j. appended_at u.appended j + length (sent_at f.left.sent j)) (λ j. length (sent_at f.left.sent j)) w.report
+            refl refl refl refl refl refl (λ j lt. omega (arith, none j lt)) w.tells;
+        text_is = w.text_is;
       }
 
   pub unfinished : (tells : Type 0) (told : tells) (e : RunFault) → WhyNotFinished tells job u.setup reads u.messages u.begun u.next u.state e → WhyUnfinished job s bytes image e
   unfolding reaches
   unfinished tells told (Words place) why = absurd why
   unfinished tells told NoText why = absurd why
+  unfinished tells told TextLimit why = absurd why
+  unfinished tells told (BadEscape line) why = absurd why
+  unfinished tells told (BadKey key what) why = absurd why
   unfinished tells told (NotBuilt key) why = absurd why
   unfinished tells told NoPartition why = absurd why
   unfinished tells told Device why = tt

@@ -1,11 +1,10 @@
 -- Why a run ends otherwise than well: the first cause in the order of work.
-use Rattle.std.specs.Prelude.{ℕ, ◌≡◌, ◌≢◌, ◌<◌, ◌⊎◌, List, Option, Some, None, codes}
+use Rattle.std.specs.Prelude.{ℕ, ◌≡◌, ◌<◌, ◌⊎◌, List, Ok, Err, codes}
 use Rattle.samza_model.specs.declared.messages.Record.{Record}
 use Rattle.samza_model.specs.Content.{State}
 use Rattle.samza_model.specs.Files.{Image}
 use Rattle.samza_model.specs.Meaning.{Meaning}
 use Rattle.samza_model.specs.declared.setups.Setup.{Setup}
-use Rattle.disk_model.specs.declared.names.DiskName.{DiskName}
 use Rattle.disk_model.specs.declared.hosts.HostFault.{HostFault}
 use Rattle.disk_model.specs.declared.hosts.HostFault.TheVariants.{Device as HostDevice, NoMemory as HostNoMemory}
 use Rattle.shipped_jobs.specs.WordCount.{word_count}
@@ -13,9 +12,9 @@ use Rattle.task_unit.specs.declared.faults.OpenFault.{OpenFault}
 use Rattle.task_unit.specs.declared.faults.OpenFault.TheVariants.{Device as OpenDevice, Damaged, Shape, Ahead, Tail, Limit as OpenLimit, NoMemory as OpenNoMemory}
 use Rattle.task_unit.specs.Units.{WhyNotOpened}
 use Rattle.samza_run.specs.declared.faults.RunFault.{RunFault}
-use Rattle.samza_run.specs.declared.faults.RunFault.TheVariants.{Words, NoText, NotBuilt, NoPartition, Device, NotOpened, Failed, Limit, NoMemory}
-use Rattle.samza_run.specs.Configured.{word_count_text, word_count_setup, task_disk, input_disk}
-use Rattle.samza_run.specs.Runs.{Fails, FailsFrom, Fills, FillsFrom}
+use Rattle.samza_run.specs.declared.faults.RunFault.TheVariants.{Words, NoText, TextLimit, BadEscape, BadKey, NotBuilt, NoPartition, Device, NotOpened, Failed, Limit, NoMemory}
+use Rattle.samza_run.specs.Configured.{Folder, set_up_by, task_disk, input_disk}
+use Rattle.samza_run.specs.Runs.{Fails, FailsFrom, Fills, FillsFrom, Ran}
 use Rattle.samza_run.specs.Words.{IsRefusedAt}
 
 -- a host's fault as the run's
@@ -37,33 +36,9 @@ abbrev pub IsPastWords : RunFault → Type 0
 IsPastWords (Words place) = ⊥
 IsPastWords e = Unit {0}
 
--- what a folder holds at a run's start
-pub record Folder : Type 0 where
-  -- the configuration's bytes
-  pub text : Option (List ℕ)
-  -- one more than the greatest number of a partition of the input
-  pub partitions : ℕ
-  -- the input's partition 0
-  pub input : List ℕ
-  -- the task's files
-  pub task : Image
-
-abbrev pub folder_of : Option (List ℕ) → (DiskName → ℕ) → (DiskName → Image) → Folder
-folder_of text partitions reads = record { text = text; partitions = partitions input_disk; input = reads input_disk 0; task = reads task_disk }
-
--- the configuration is the one that is built
-abbrev pub IsConfigured : Folder → Type 0
-IsConfigured f = f.text ≡ Some word_count_text
-
--- and the input has one partition
-abbrev pub IsReady : Folder → Type 0
-IsReady f = IsConfigured f × (f.partitions ≡ 1)
-
--- there is another configuration, or the input has more than one partition
-abbrev pub IsNotBuilt : Folder → List ℕ → Type 0
-IsNotBuilt f key =
-    ((key ≡ codes "job.properties") × ((text : List ℕ) × (f.text ≡ Some text) × (text ≢ word_count_text)))
-    ⊎ ((key ≡ codes "task.inputs") × IsConfigured f × (1 < f.partitions))
+-- a folder's task is set up so
+abbrev pub IsReady : Folder → Setup → Type 0
+IsReady f s = set_up_by f ≡ Ok s
 
 -- an input hasn't just one partition
 abbrev pub WhyNotOne : ℕ → RunFault → Type 0
@@ -73,17 +48,11 @@ WhyNotOne partitions Device = Unit {0}
 WhyNotOne partitions NoMemory = Unit {0}
 WhyNotOne partitions e = ⊥
 
--- a folder isn't ready to run: for its configuration, or for its input's partitions
+-- a folder isn't ready to run: a device failed, memory was refused, or it is the first thing that is wrong
 abbrev pub WhyNotReady : Folder → RunFault → Type 0
-WhyNotReady f (Words place) = ⊥
-WhyNotReady f NoText = f.text ≡ None
-WhyNotReady f (NotBuilt key) = IsNotBuilt f key
-WhyNotReady f NoPartition = IsConfigured f × (f.partitions ≡ 0)
 WhyNotReady f Device = Unit {0}
-WhyNotReady f (NotOpened e) = ⊥
-WhyNotReady f (Failed why) = ⊥
-WhyNotReady f Limit = ⊥
 WhyNotReady f NoMemory = Unit {0}
+WhyNotReady f e = set_up_by f ≡ Err e
 
 -- from this state on, a unit's messages aren't all done and committed
 abbrev pub WhyNotFinished : Type 0 → Meaning → Setup → Image → List Record → ℕ → ℕ → State → RunFault → Type 0
@@ -97,6 +66,9 @@ WhyNotFinished tells job s before messages begun next state e = ⊥
 abbrev pub WhyUnfinished : Meaning → Setup → List ℕ → Image → RunFault → Type 0
 WhyUnfinished job s input before (Words place) = ⊥
 WhyUnfinished job s input before NoText = ⊥
+WhyUnfinished job s input before TextLimit = ⊥
+WhyUnfinished job s input before (BadEscape line) = ⊥
+WhyUnfinished job s input before (BadKey key what) = ⊥
 WhyUnfinished job s input before (NotBuilt key) = ⊥
 WhyUnfinished job s input before NoPartition = ⊥
 WhyUnfinished job s input before Device = Unit {0}
@@ -105,10 +77,14 @@ WhyUnfinished job s input before (Failed f) = Fails job s input before f
 WhyUnfinished job s input before Limit = Fills job s input before
 WhyUnfinished job s input before NoMemory = Unit {0}
 
+-- a folder's task was run to its end, which leaves these files of it
+abbrev pub IsRun : Folder → Image → Type 0
+IsRun f after = (s : Setup) × IsReady f s × Ran word_count s (f.disks (input_disk s) 0) (f.disks task_disk) after
+
 -- why a folder isn't run to its end
 abbrev pub WhyStopped : List (List ℕ) → Folder → RunFault → Type 0
 WhyStopped words f (Words place) = IsRefusedAt words place
-WhyStopped words f e = WhyNotReady f e ⊎ (IsReady f × WhyUnfinished word_count word_count_setup f.input f.task e)
+WhyStopped words f e = WhyNotReady f e ⊎ ((s : Setup) × IsReady f s × WhyUnfinished word_count s (f.disks (input_disk s) 0) (f.disks task_disk) e)
 
 abbrev pub open_status : OpenFault → ℕ
 open_status OpenDevice = 4
@@ -123,6 +99,9 @@ open_status OpenNoMemory = 8
 abbrev pub status_of : RunFault → ℕ
 status_of (Words place) = 2
 status_of NoText = 3
+status_of TextLimit = 9
+status_of (BadEscape line) = 3
+status_of (BadKey key what) = 3
 status_of (NotBuilt key) = 3
 status_of NoPartition = 3
 status_of Device = 4

@@ -6,15 +6,25 @@ use Rattle.samza_model.specs.declared.turns.Failure.{Failure}
 use Rattle.samza_model.specs.declared.turns.Why.{Why}
 use Rattle.samza_model.specs.declared.turns.Why.TheVariants.{Code, TooMany, Limits, Expired}
 use Rattle.samza_model.specs.Names.{topic_of}
+use Rattle.job_config.specs.declared.faults.What.{What}
+use Rattle.job_config.specs.declared.faults.What.TheVariants.{Missing, NotNumber, OutOfRange, BadName, Unknown}
 use Rattle.task_unit.specs.declared.faults.OpenFault.{OpenFault}
 use Rattle.task_unit.specs.declared.faults.OpenFault.TheVariants.{Device as OpenDevice, Damaged, Shape, Ahead, Tail, Limit as OpenLimit, NoMemory as OpenNoMemory}
 use Rattle.samza_run.specs.declared.faults.RunFault.{RunFault}
-use Rattle.samza_run.specs.declared.faults.RunFault.TheVariants.{Words, NoText, NotBuilt, NoPartition, Device, NotOpened, Failed, Limit, NoMemory}
+use Rattle.samza_run.specs.declared.faults.RunFault.TheVariants.{Words, NoText, TextLimit, BadEscape, BadKey, NotBuilt, NoPartition, Device, NotOpened, Failed, Limit, NoMemory}
 use Rattle.samza_run.specs.Texts.{task_text, partition_text, text_of}
 
 -- a key of the configuration, and what is wrong with it
 abbrev pub config_text : List ℕ → List ℕ → List ℕ
 config_text key what = codes "config: " ++ key ++ codes ": " ++ what
+
+-- what is wrong with a key
+abbrev pub what_text : What → List ℕ
+what_text Missing = codes "Missing"
+what_text NotNumber = codes "NotNumber"
+what_text OutOfRange = codes "OutOfRange"
+what_text BadName = codes "BadName"
+what_text Unknown = codes "Unknown"
 
 -- why a job's turn failed
 abbrev pub why_text : Why → List ℕ
@@ -62,6 +72,9 @@ open_text task inputs OpenNoMemory = codes "no memory"
 abbrev pub fault_text : TaskName → List Ssp → RunFault → List ℕ
 fault_text task inputs (Words place) = codes "usage: word " ++ decimal place
 fault_text task inputs NoText = config_text (codes "job.properties") (codes "Missing")
+fault_text task inputs TextLimit = codes "limit: text"
+fault_text task inputs (BadEscape line) = codes "config: line " ++ decimal line ++ codes ": BadEscape"
+fault_text task inputs (BadKey key what) = config_text key (what_text what)
 fault_text task inputs (NotBuilt key) = config_text key (codes "NotBuilt")
 fault_text task inputs NoPartition = config_text (codes "task.inputs") (codes "Unknown")
 fault_text task inputs Device = codes "device failed"

@@ -1,7 +1,12 @@
 pub mod Causes
+pub mod ConfigText
 pub mod Configured
 pub mod FaultText
+pub mod Leaves
+pub mod NotBuilt
 pub mod ReportText
+pub mod Reported
 pub mod Runs
+pub mod SetUp
 pub mod Texts
 pub mod Words

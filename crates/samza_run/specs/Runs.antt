@@ -117,3 +117,4 @@ pub record Advances {P D S : Type 0} (job : Meaning) (old new : UnitValue P D S)
   pub disk : new.disk ≡ old.disk
   pub shelf : new.shelf ≡ old.shelf
   pub mark : (new.mark ≡ old.mark) × (new.broken ≡ old.broken)
+  pub appended : new.appended ≡ old.appended

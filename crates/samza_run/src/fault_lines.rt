@@ -1,11 +1,12 @@
 // The line that tells why a run ended otherwise than well.
 ghost use Rattle.std.specs.Prelude.{◌≡◌, ◌∷◌, ◌++◌, [], IfOk, OnOk, decimal, slice_get};
 ghost use Rattle.samza_model.specs.Names.{topic_of};
-ghost use Rattle.samza_run.specs.FaultText.{config_text, why_text, turn_text, failure_head, failure_text, file_text, changelog_file, open_text, fault_text};
+ghost use Rattle.samza_run.specs.FaultText.{config_text, what_text, why_text, turn_text, failure_head, failure_text, file_text, changelog_file, open_text, fault_text};
 ghost use Rattle.samza_run.specs.Texts.{partition_text, text_of};
 
 use crate::RunFault;
 use crate::texts::Text;
+use job_config::What;
 use samza_model::{Failure, NoMemory, Ssp, TaskName, Why};
 use std::alloc::Global;
 use task_unit::OpenFault;
@@ -39,6 +40,13 @@ fn put_fault(
             text.put_number(*place)?;
         }
         RunFault::NoText => put_config(text, b"job.properties", b"Missing")?,
+        RunFault::TextLimit => text.put(b"limit: text")?,
+        RunFault::BadEscape { line } => {
+            text.put(b"config: line ")?;
+            text.put_number(*line)?;
+            text.put(b": BadEscape")?;
+        }
+        RunFault::BadKey { key, what } => put_config(text, key.bytes(), what_text(*what))?,
         RunFault::NotBuilt { key } => put_config(text, key.bytes(), b"NotBuilt")?,
         RunFault::NoPartition => put_config(text, b"task.inputs", b"Unknown")?,
         RunFault::Device => text.put(b"device failed")?,
@@ -58,6 +66,18 @@ fn put_config(text: &mut Text, key: &[u8], what: &[u8]) -> Result<(), NoMemory>
     text.put(b": ")?;
     text.put(what)?;
     Ok(())
+}
+
+fn what_text(what: What) -> &'static [u8]
+    ensures { result.now ≡ what_text what }
+{
+    match what {
+        What::Missing => b"Missing",
+        What::NotNumber => b"NotNumber",
+        What::OutOfRange => b"OutOfRange",
+        What::BadName => b"BadName",
+        What::Unknown => b"Unknown",
+    }
 }
 
 fn put_not_opened(

@@ -1,72 +1,97 @@
-// The one configuration that is built so far.
-ghost use Rattle.std.specs.Prelude.{◌≡◌, ◌↔◌, IsTrue, IfOk};
-ghost use Rattle.samza_run.specs.Configured.{word_count_text, word_count_input, word_count_setup, input_disk};
+// What a configuration sets up.
+ghost use Rattle.std.specs.Prelude.{◌≡◌, None, IfOk, map};
+ghost use Rattle.job_config.specs.Bounds.{IsBounded};
+ghost use Rattle.task_unit.specs.Units.{IsSetUp, input_of};
+ghost use Rattle.samza_run.specs.Configured.{input_disk};
+ghost use Rattle.samza_run.specs.NotBuilt.{first_not_built};
+ghost use Rattle.samza_run.specs.SetUp.{input_setup, setup_of};
 
 use disk_model::DiskName;
-use samza_model::{
-    Bin, InputSetup, Items, NoMemory, OffsetDefault, Setup, Ssp, StoreSetup, TaskName,
-};
+use job_config::{InputConfig, JobConfig};
+use samza_model::{InputSetup, Items, NoMemory, Plain, Setup, Ssp, TaskName};
 use std::alloc::Global;
 
-const TEXT: &[u8] =
-    b"job.name=wc\ntask.class=WordCount\ntask.inputs=kafka.lines\napp.outputs=kafka.totals\nstores.counts.changelog=kafka.counts-log\nsystems.kafka.default.stream.samza.offset.default=oldest\n";
-
-/// Whether a configuration is the one that is built.
-pub(crate) fn is_built(text: &[u8]) -> bool
-    ensures { IsTrue result ↔ (text.now ≡ word_count_text) }
-{
-    text == TEXT
-}
-
-/// The input of the task.
-fn input_setup(alloc: Global) -> Result<InputSetup, NoMemory>
-    ensures { IfOk result (λ i. i ≡ word_count_input) }
+/// Partition 0 of an input.
+fn partition_of(alloc: Global, input: &InputConfig) -> Result<InputSetup, NoMemory>
+    ensures { IfOk result (λ i. i ≡ input_setup input.now) }
 {
     Ok(InputSetup {
         ssp: Ssp {
-            system: Bin::of(alloc, b"kafka")?,
-            stream: Bin::of(alloc, b"lines")?,
+            system: input.system.copy(alloc)?,
+            stream: input.stream.copy(alloc)?,
             partition: 0,
         },
-        fallback: OffsetDefault::Oldest,
-        reset: false,
+        fallback: input.fallback,
+        reset: input.reset,
     })
 }
 
-/// The setup of the configuration's one task.
-pub(crate) fn word_count_setup(alloc: Global) -> Result<Setup, NoMemory>
-    ensures { IfOk result (λ s. s ≡ word_count_setup) }
+/// Partition 0 of each input.
+fn partitions_of(alloc: Global, inputs: &[InputConfig]) -> Result<Items<InputSetup>, NoMemory>
+    ensures { IfOk result (λ setups. setups ≡ map input_setup inputs.now) }
 {
-    let mut inputs = Vec::new(alloc);
-    inputs.push(input_setup(alloc)?)?;
-    let mut stores = Vec::new(alloc);
-    stores.push(StoreSetup {
-        name: Bin::of(alloc, b"counts")?,
-        cache: 1000,
-        batch: 500,
-    })?;
-    let mut outputs = Vec::new(alloc);
-    outputs.push(Bin::of(alloc, b"kafka.totals")?)?;
+    let mut setups = Vec::new(alloc);
+    for input in inputs {
+        setups.push(partition_of(alloc, input)?)?;
+    }
+    Ok(Items::from_vec(setups))
+}
+
+/// The setup of the one task of one container.
+fn task_setup(alloc: Global, config: &JobConfig) -> Result<Setup, NoMemory>
+    ensures { IfOk result (λ s. s ≡ setup_of config.now) }
+{
     Ok(Setup {
         task: TaskName(0),
-        inputs: Items::from_vec(inputs),
-        stores: Items::from_vec(stores),
-        outputs: Items::from_vec(outputs),
-        concurrency: 1,
+        inputs: partitions_of(alloc, config.inputs.as_slice())?,
+        stores: config.stores.copy(alloc)?,
+        outputs: config.outputs.copy(alloc)?,
+        concurrency: config.concurrency,
         span: 65_536,
-        async_commit: false,
-        window_ms: None,
-        commit_ms: Some(60_000),
-        timeout_ms: None,
+        async_commit: config.async_commit,
+        window_ms: config.window_ms,
+        commit_ms: config.commit_ms,
+        timeout_ms: config.timeout_ms,
     })
 }
 
-/// The name of the input's disk.
-pub(crate) fn input_disk(alloc: Global) -> Result<DiskName, NoMemory>
-    ensures { IfOk result (λ n. n ≡ input_disk) }
+/// The setup of the one task of one container, for a configuration of which all is built. A unit is opened for it.
+pub(crate) fn setup_of(alloc: Global, config: &JobConfig) -> Result<Setup, NoMemory>
+    requires bounded { IsBounded config.now }
+    requires built { first_not_built config.now ≡ None }
+    ensures setup { IfOk result (λ s. s ≡ setup_of config.now) }
+    ensures set_up { IfOk result IsSetUp }
 {
+    task_setup(alloc, config)
+}
+
+/// The partition that is the setup's input.
+pub(crate) fn input_of(setup: &Setup) -> &Ssp
+    requires { IsSetUp setup.now }
+    ensures { result.now ≡ (input_of setup.now).ssp }
+{
+    &setup.inputs.as_slice()[0].ssp
+}
+
+/// The name of the disk of a setup's input.
+pub(crate) fn input_disk(alloc: Global, setup: &Setup) -> Result<DiskName, NoMemory>
+    requires { IsSetUp setup.now }
+    ensures { IfOk result (λ n. n ≡ input_disk setup.now) }
+{
+    let input = input_of(setup);
     Ok(DiskName::Stream {
-        system: Bin::of(alloc, b"kafka")?,
-        stream: Bin::of(alloc, b"lines")?,
+        system: input.system.copy(alloc)?,
+        stream: input.stream.copy(alloc)?,
     })
+}
+
+/// The partition of each input.
+pub(crate) fn inputs_of(alloc: Global, setup: &Setup) -> Result<Vec<Ssp>, NoMemory>
+    ensures { IfOk result (λ v. v.items ≡ map (λ i. i.ssp) setup.now.inputs) }
+{
+    let mut inputs = Vec::new(alloc);
+    for input in setup.inputs.as_slice() {
+        inputs.push(input.ssp.copy(alloc)?)?;
+    }
+    Ok(inputs)
 }

@@ -12,6 +12,6 @@ pub loop-fault-preserved : goal.loop-fault-preserved
 loop-fault-preserved g c =
     let p = c.in-Ok-true.ensures.processed c.in-Ok-true.field-0-test in
     let e = c.one_message.ensures in (
-      advances_more g.J.Job.meaning c.args.unit.now c.loop-fault.unit c.one_message.new.self c.loop-fault.invariant.0 p e.given e.disk e.shelf e.mark,
+      advances_more g.J.Job.meaning c.args.unit.now c.loop-fault.unit c.one_message.new.self c.loop-fault.invariant.0 p e.given e.disk e.shelf e.mark e.appended,
       stays_within g.J.Job.meaning c.args.unit.now c.loop-fault.unit c.one_message.new.self c.loop-fault.invariant.0 p,
     )

@@ -1,0 +1,235 @@
+-- What the rows of stores and streams keep.
+use Rattle.std.proofs.Common.{◌≡◌, ◌+◌, ◌≤◌, ◌<◌, ℕ, max, min, List, [], ◌∷◌, ◌++◌, length, map, get_or, Bool, true, false, cond, not, ◌==◌, nat_le, Option, Some, None, Result, Ok, Err, refl, sym, ◌∙◌, ap, subst, arith}
+use Rattle.std.proofs.lemmas.Bool.Decides.{nat_tests}
+use Rattle.std.proofs.lemmas.List.{length-drop}
+use Rattle.std.proofs.lemmas.List.Sums.{prefix_len_stops, split_at_first}
+use Rattle.std.specs.List.{AllByRecursion, find, filter_map, cons_option, position_or_len}
+use Rattle.std.specs.FinMap as map_of
+use Rattle.samza_model.specs.Names.{is_system, is_stream, is_topic}
+use Rattle.samza_model.specs.declared.setups.StoreSetup.{StoreSetup}
+use Rattle.props_text.specs.Pairs.{Props}
+use Rattle.job_config.specs.declared.faults.What.{What}
+use Rattle.job_config.specs.declared.config.InputConfig.{InputConfig}
+use Rattle.job_config.specs.declared.streams.Stream.{Stream}
+use Rattle.job_config.specs.declared.keys.StoreSetting.{StoreSetting}
+use Rattle.job_config.specs.declared.keys.StoreSetting.TheVariants.{Factory, Changelog, CacheSize, BatchSize}
+use Rattle.job_config.specs.declared.keys.StreamSetting.{StreamSetting}
+use Rattle.job_config.specs.declared.keys.StreamSetting.TheVariants.{OwnStart, SystemStart, OwnReset, SystemReset, Bootstrap, Priority}
+use Rattle.job_config.specs.declared.keys.Setting.TheVariants.{Stores}
+use Rattle.job_config.specs.declared.faults.What.TheVariants.{OutOfRange}
+use Rattle.std.specs.Option.{option_or}
+use Rattle.job_config.specs.Keys.{text_of, store_key, stream_key}
+use Rattle.job_config.specs.Values.{any_text, some_text, size, cut, then_number, start, own_flag, flag, priority}
+use Rattle.job_config.specs.Numbers.{number_of}
+use Rattle.job_config.specs.Stores.{store_of, is_misnamed, is_no_store_name, unless_misnamed, store_names, new_store, store_row, counted_stores, store_rows}
+use Rattle.job_config.specs.Streams.{system_of, stream_of, new_stream, stream_row, input_of, stream_rows}
+use Rattle.job_config.specs.Lists.{in_order}
+use Rattle.job_config.specs.Asking.{Fault, Asks, ◌>>=◌, gives, row, each, unless}
+use Rattle.job_config.specs.Bounds.{AreStores, IsStore, input_name}
+use Rattle.job_config.proofs.Topics.{each_in_order}
+use Rattle.job_config.proofs.Yields.{through, row_gave, unless_gave, each_all, each_keeps}
+use Rattle.job_config.proofs.Spelled.{and_right}
+
+-- a size is from 1 to its bound, where what it is without a key is
+cut_bounds : (most : ℕ) (n : Option ℕ) (x : ℕ) → 1 ≤ most → cut most n ≡ Ok x → (1 ≤ x) × (x ≤ most)
+cut_bounds most None x some is = absurd cc
+cut_bounds most (Some n) x some is = let same : max 1 (min n most) ≡ x = cc is in (omega (arith, same), omega (arith, same))
+
+number_bounds : (most : ℕ) (r : Result (Option ℕ) What) (x : ℕ) → 1 ≤ most → then_number (cut most) r ≡ Ok x → (1 ≤ x) × (x ≤ most)
+number_bounds most (Ok n) x some is = cut_bounds most n x some is
+number_bounds most (Err what) x some is = absurd cc
+
+size_bounds : (default most : ℕ) (t : Option (List ℕ)) (x : ℕ) → (1 ≤ default) × (default ≤ most) → size default most t ≡ Ok x → (1 ≤ x) × (x ≤ most)
+unfolding size
+size_bounds default most None x within is = let same : default ≡ x = cc is in subst (λ n. (1 ≤ n) × (n ≤ most)) same within
+size_bounds default most (Some t) x within is = number_bounds most (number_of t) x (omega (arith, within.0, within.1)) is
+
+-- a row of a store leaves it one
+pub store_stays : (p : Props) (setting : StoreSetting) (s : StoreSetup) (asked : List (List ℕ)) (r : StoreSetup × List (List ℕ)) → IsStore s → store_row p setting s asked ≡ Ok r → IsStore r.0
+unfolding store_row
+store_stays p Factory s asked r store is =
+    let k = through (row p (store_key Factory s.name) any_text asked) (λ _. gives s) r is in
+    let same : (s, k.0.1) ≡ r = cc k.2 in
+    subst (λ (z : StoreSetup × List (List ℕ)). IsStore z.0) same store
+store_stays p Changelog s asked r store is =
+    let k = through (row p (store_key Changelog s.name) some_text asked) (λ _. gives s) r is in
+    let same : (s, k.0.1) ≡ r = cc k.2 in
+    subst (λ (z : StoreSetup × List (List ℕ)). IsStore z.0) same store
+store_stays p CacheSize s asked r store is =
+    let k = through (row p (store_key CacheSize s.name) (size s.cache 1000000) asked) (λ cache. gives (record s { cache = cache })) r is in
+    let same : (record s { cache = k.0.0 }, k.0.1) ≡ r = cc k.2 in
+    subst (λ (z : StoreSetup × List (List ℕ)). IsStore z.0) same (record { name = store.name; batch = store.batch })
+store_stays p BatchSize s asked r store is =
+    let k = through (row p (store_key BatchSize s.name) (size s.batch 4096) asked) (λ batch. gives (record s { batch = batch })) r is in
+    let same : (record s { batch = k.0.0 }, k.0.1) ≡ r = cc k.2 in
+    subst (λ (z : StoreSetup × List (List ℕ)). IsStore z.0) same
+    (record { name = store.name; batch = size_bounds s.batch 4096 (map_of.get p (store_key BatchSize s.name)) k.0.0 store.batch (row_gave p (store_key BatchSize s.name) (size s.batch 4096) asked k.0 k.1) })
+
+-- the names of stores are spelled as they must be
+abbrev IsSystem : List ℕ → Type 0
+IsSystem n = is_system n ≡ true
+
+with_named : (o : Option (List ℕ)) (rest : List (List ℕ)) → is_no_store_name o ≡ false → AllByRecursion IsSystem rest → AllByRecursion IsSystem (cons_option o rest)
+with_named None rest good all = all
+with_named (Some name) rest good all = (by (is_system name) refl good, all)
+  where
+    by : (b : Bool) → is_system name ≡ b → not b ≡ false → is_system name ≡ true
+    by true is good' = is
+    by false is good' = absurd cc
+
+all_named : (ks : List (List ℕ)) → find is_misnamed ks ≡ None → AllByRecursion IsSystem (filter_map store_of ks)
+all_named [] none = tt
+all_named (k ∷ ks) none = by (λ rest. all_named ks rest) (is_misnamed k) refl none
+  where
+    by : (find is_misnamed ks ≡ None → AllByRecursion IsSystem (filter_map store_of ks)) → (b : Bool) → is_misnamed k ≡ b → cond b (Some k) (find is_misnamed ks) ≡ None
+        → AllByRecursion IsSystem (cons_option (store_of k) (filter_map store_of ks))
+    by rest true bad none' = absurd cc
+    by rest false good none' = with_named (store_of k) (filter_map store_of ks) good (rest none')
+
+names_named : (p : Props) (names : List (List ℕ)) → store_names p ≡ Ok names → AllByRecursion IsSystem names
+unfolding store_names in_order
+names_named p names is = by (find is_misnamed (map_of.keys p)) refl is
+  where
+    by : (o : Option (List ℕ)) → find is_misnamed (map_of.keys p) ≡ o → unless_misnamed o (in_order (filter_map store_of (map_of.keys p))) ≡ Ok names → AllByRecursion IsSystem names
+    by None none is' =
+        let same : in_order (filter_map store_of (map_of.keys p)) ≡ names = cc is' in
+        subst (AllByRecursion IsSystem) same (each_in_order IsSystem (filter_map store_of (map_of.keys p)) [] (all_named (map_of.keys p) none) tt)
+    by (Some key) bad is' = absurd cc
+
+new_are : (names : List (List ℕ)) → AllByRecursion IsSystem names → AllByRecursion IsStore (map new_store names)
+new_are [] all = tt
+new_are (n ∷ ns) all = (record { name = all.0; batch = (omega arith, omega arith) }, new_are ns all.1)
+
+counted_are : (stores found : List StoreSetup) → AllByRecursion IsStore stores → counted_stores stores ≡ Ok found → AreStores found
+unfolding counted_stores
+counted_are [] found all is = absurd cc
+counted_are (s ∷ ss) found all is = by (nat_le (length (s ∷ ss)) 8) refl is
+  where
+    by : (b : Bool) → nat_le (length (s ∷ ss)) 8 ≡ b → cond {A = Result (List StoreSetup) Fault} b (Ok (s ∷ ss)) (Err (text_of Stores, OutOfRange)) ≡ Ok found → AreStores found
+    by true within is' =
+        let same : s ∷ ss ≡ found = cc is' in
+        subst AreStores same (record { some = omega arith; few = grind (arith, nat_tests, within); each = all })
+    by false over is' = absurd cc
+
+-- the rows of the stores from each place on
+abbrev from_counted : Props → List StoreSetup → Asks (List StoreSetup)
+from_counted p counted = each counted (store_row p CacheSize) >>= λ cached. each cached (store_row p BatchSize)
+
+abbrev from_kept : Props → List StoreSetup → Asks (List StoreSetup)
+from_kept p kept = unless (counted_stores kept) >>= from_counted p
+
+abbrev from_made : Props → List StoreSetup → Asks (List StoreSetup)
+from_made p made = each made (store_row p Changelog) >>= from_kept p
+
+abbrev from_names : Props → List (List ℕ) → Asks (List StoreSetup)
+from_names p names = each (map new_store names) (store_row p Factory) >>= from_made p
+
+pub stores_are : (p : Props) (asked : List (List ℕ)) (r : List StoreSetup × List (List ℕ)) → store_rows p asked ≡ Ok r → AreStores r.0
+unfolding store_rows
+stores_are p asked r is =
+    let names = through (unless (store_names p) asked) (from_names p) r is in
+    let named = names_named p names.0.0 (unless_gave (store_names p) asked names.0 names.1) in
+    let made = through (each (map new_store names.0.0) (store_row p Factory) names.0.1) (from_made p) r names.2 in
+    let made_are = each_all IsStore IsStore (store_row p Factory) (store_stays p Factory) (map new_store names.0.0) names.0.1 made.0 (new_are names.0.0 named) made.1 in
+    let kept = through (each made.0.0 (store_row p Changelog) made.0.1) (from_kept p) r made.2 in
+    let kept_are = each_all IsStore IsStore (store_row p Changelog) (store_stays p Changelog) made.0.0 made.0.1 kept.0 made_are.0 kept.1 in
+    let counted = through (unless (counted_stores kept.0.0) kept.0.1) (from_counted p) r kept.2 in
+    let are = counted_are kept.0.0 counted.0.0 kept_are.0 (unless_gave (counted_stores kept.0.0) kept.0.1 counted.0 counted.1) in
+    let cached = through (each counted.0.0 (store_row p CacheSize) counted.0.1) (λ cached. each cached (store_row p BatchSize)) r counted.2 in
+    let cached_are = each_all IsStore IsStore (store_row p CacheSize) (store_stays p CacheSize) counted.0.0 counted.0.1 cached.0 are.each cached.1 in
+    let last_are = each_all IsStore IsStore (store_row p BatchSize) (store_stays p BatchSize) cached.0.0 cached.0.1 r cached_are.0 cached.2 in
+    record { some = omega (arith, are.some, cached_are.1, last_are.1); few = omega (arith, are.few, cached_are.1, last_are.1); each = last_are.0 }
+
+-- a stream as `system.stream`
+abbrev stream_name : Stream → List ℕ
+stream_name s = s.system ++ 46 ∷ s.stream
+
+-- a row of a stream leaves it its name
+stream_stays : (p : Props) (setting : StreamSetting) (s : Stream) (asked : List (List ℕ)) (r : Stream × List (List ℕ)) → stream_row p setting s asked ≡ Ok r → stream_name r.0 ≡ stream_name s
+unfolding stream_row
+stream_stays p OwnStart s asked r is =
+    let k = through (row p (stream_key OwnStart s.system s.stream) start asked) (λ own. gives (record s { start = own })) r is in
+    let same : (record s { start = k.0.0 }, k.0.1) ≡ r = cc k.2 in
+    sym (ap (λ (z : Stream × List (List ℕ)). stream_name z.0) same)
+stream_stays p SystemStart s asked r is =
+    let k = through (row p (stream_key SystemStart s.system s.stream) start asked) (λ of_system. gives (record s { start = option_or s.start of_system })) r is in
+    let same : (record s { start = option_or s.start k.0.0 }, k.0.1) ≡ r = cc k.2 in
+    sym (ap (λ (z : Stream × List (List ℕ)). stream_name z.0) same)
+stream_stays p OwnReset s asked r is =
+    let k = through (row p (stream_key OwnReset s.system s.stream) own_flag asked) (λ own. gives (record s { reset = own })) r is in
+    let same : (record s { reset = k.0.0 }, k.0.1) ≡ r = cc k.2 in
+    sym (ap (λ (z : Stream × List (List ℕ)). stream_name z.0) same)
+stream_stays p SystemReset s asked r is =
+    let k = through (row p (stream_key SystemReset s.system s.stream) own_flag asked) (λ of_system. gives (record s { reset = option_or s.reset of_system })) r is in
+    let same : (record s { reset = option_or s.reset k.0.0 }, k.0.1) ≡ r = cc k.2 in
+    sym (ap (λ (z : Stream × List (List ℕ)). stream_name z.0) same)
+stream_stays p Bootstrap s asked r is =
+    let k = through (row p (stream_key Bootstrap s.system s.stream) flag asked) (λ bootstrap. gives (record s { bootstrap = bootstrap })) r is in
+    let same : (record s { bootstrap = k.0.0 }, k.0.1) ≡ r = cc k.2 in
+    sym (ap (λ (z : Stream × List (List ℕ)). stream_name z.0) same)
+stream_stays p Priority s asked r is =
+    let k = through (row p (stream_key Priority s.system s.stream) (priority 1000000) asked) (λ priority. gives (record s { priority = priority })) r is in
+    let same : (record s { priority = k.0.0 }, k.0.1) ≡ r = cc k.2 in
+    sym (ap (λ (z : Stream × List (List ℕ)). stream_name z.0) same)
+
+streams_stay : (p : Props) (setting : StreamSetting) (xs : List Stream) (asked : List (List ℕ)) (r : List Stream × List (List ℕ)) → each xs (stream_row p setting) asked ≡ Ok r → map stream_name r.0 ≡ map stream_name xs
+streams_stay p setting = each_keeps stream_name stream_name (stream_row p setting) (stream_stays p setting)
+
+some_stream : (t : List ℕ) → is_stream t ≡ true → 1 ≤ length t
+some_stream [] h = absurd cc
+some_stream (c ∷ cs) h = omega arith
+
+-- a stream's name is what stands before its first dot, the dot, and what stands behind
+whole : (name : List ℕ) → is_topic name ≡ true → system_of name ++ 46 ∷ stream_of name ≡ name
+whole name h =
+    let dotted = λ (c : ℕ). c == 46 in
+    let k = position_or_len dotted name in
+    let some = some_stream (stream_of name) (and_right (is_system (system_of name)) (is_stream (stream_of name)) h) in
+    let within : k < length name = omega (arith, some, length-drop (k + 1) name) in
+    let is_dot : get_or name k 0 ≡ 46 = grind (arith, nat_tests, prefix_len_stops (λ (c : ℕ). not (c == 46)) name 0 within) in
+    ap (λ (c : ℕ). system_of name ++ c ∷ stream_of name) (sym is_dot) ∙ sym (split_at_first dotted name 0 within)
+
+new_names : (names : List (List ℕ)) → AllByRecursion (λ n. is_topic n ≡ true) names → map stream_name (map new_stream names) ≡ names
+new_names [] all = refl
+new_names (n ∷ ns) all = cc (whole n all.0, new_names ns all.1)
+
+input_names : (streams : List Stream) → map input_name (map input_of streams) ≡ map stream_name streams
+input_names [] = refl
+input_names (s ∷ ss) = ap (λ (xs : List (List ℕ)). stream_name s ∷ xs) (input_names ss)
+
+-- the rows of the streams from each place on
+abbrev from_bootstrap : Props → List Stream → Asks (List InputConfig)
+from_bootstrap p e = each e (stream_row p Priority) >>= λ f. gives (map input_of f)
+
+abbrev from_reset : Props → List Stream → Asks (List InputConfig)
+from_reset p d = each d (stream_row p Bootstrap) >>= from_bootstrap p
+
+abbrev from_own_reset : Props → List Stream → Asks (List InputConfig)
+from_own_reset p c = each c (stream_row p SystemReset) >>= from_reset p
+
+abbrev from_start : Props → List Stream → Asks (List InputConfig)
+from_start p b = each b (stream_row p OwnReset) >>= from_own_reset p
+
+abbrev from_own_start : Props → List Stream → Asks (List InputConfig)
+from_own_start p a = each a (stream_row p SystemStart) >>= from_start p
+
+-- the inputs have the names that were listed
+pub inputs_named : (p : Props) (names asked : List (List ℕ)) (r : List InputConfig × List (List ℕ)) → AllByRecursion (λ n. is_topic n ≡ true) names → stream_rows p names asked ≡ Ok r → map input_name r.0 ≡ names
+unfolding stream_rows
+inputs_named p names asked r all is =
+    let a = through (each (map new_stream names) (stream_row p OwnStart) asked) (from_own_start p) r is in
+    let b = through (each a.0.0 (stream_row p SystemStart) a.0.1) (from_start p) r a.2 in
+    let c = through (each b.0.0 (stream_row p OwnReset) b.0.1) (from_own_reset p) r b.2 in
+    let d = through (each c.0.0 (stream_row p SystemReset) c.0.1) (from_reset p) r c.2 in
+    let e = through (each d.0.0 (stream_row p Bootstrap) d.0.1) (from_bootstrap p) r d.2 in
+    let f = through (each e.0.0 (stream_row p Priority) e.0.1) (λ f. gives (map input_of f)) r e.2 in
+    let same : (map input_of f.0.0, f.0.1) ≡ r = cc f.2 in
+    sym (ap (λ (z : List InputConfig × List (List ℕ)). map input_name z.0) same)
+    ∙ input_names f.0.0
+    ∙ streams_stay p Priority e.0.0 e.0.1 f.0 f.1
+    ∙ streams_stay p Bootstrap d.0.0 d.0.1 e.0 e.1
+    ∙ streams_stay p SystemReset c.0.0 c.0.1 d.0 d.1
+    ∙ streams_stay p OwnReset b.0.0 b.0.1 c.0 c.1
+    ∙ streams_stay p SystemStart a.0.0 a.0.1 b.0 b.1
+    ∙ streams_stay p OwnStart (map new_stream names) asked a.0 a.1
+    ∙ new_names names all
