@@ -174,18 +174,27 @@ fn lines_refuse(
     refuses(alloc, &mut host, status, line)
 }
 
-/// A topic file of one message of 342 words `w`.
-fn too_many_words(alloc: Global) -> Result<Vec<u8>, Fail> {
-    let mut bytes = Vec::from_slice(
-        alloc,
-        b"O\x00\x00\x02\xb3\x00\x00\x00\x01\x00\x00\x00\x00\x00\x00\x02\xabw",
-    )?;
-    for _i in 0..341 {
+/// A topic file that begins so, and goes on with so many times ` w` and a closed gate.
+fn words_behind(alloc: Global, front: &[u8], count: u32) -> Result<Vec<u8>, Fail> {
+    let mut bytes = Vec::from_slice(alloc, front)?;
+    for _i in 0..count {
         bytes.extend_from_slice(b" w")?;
     }
     bytes.push(b'C')?;
     Ok(bytes)
 }
+
+/// The first bytes of a topic file of one message of 341 words, and of one of 342, with its first word `w`.
+const WORDS_341: &[u8] = b"O\x00\x00\x02\xb1\x00\x00\x00\x01\x00\x00\x00\x00\x00\x00\x02\xa9w";
+
+const WORDS_342: &[u8] = b"O\x00\x00\x02\xb3\x00\x00\x00\x01\x00\x00\x00\x00\x00\x00\x02\xabw";
+
+/// What a run of a message of 341 words reports, and what it leaves of the store.
+const MANY_WORDS: &[u8] =
+    b"container 0 tasks 1\nPartition 0 checkpoint 1 new 1\n  input kafka.lines 0 next 1 end 1\n  store counts keys 1\n  output kafka.totals sent 341\ntotal new 1\n";
+
+const MANY_COUNTS: &[u8] =
+    b"O\x00\x00\x00\x0c\x00\x00\x00\x01\x00\x00\x00\x01w\x00\x00\x00\x03341C";
 
 /// The report of the two lines, and that of a run with nothing new behind it.
 pub(crate) const FIRST_REPORT: &[u8] =
@@ -336,7 +345,19 @@ fn each_refusal_has_its_status_and_line(rt: HostRuntime) -> Result<(), Fail> {
     ] {
         assert!(rt; lines_refuse(alloc, text, bytes, status, line)?);
     }
-    let many = too_many_words(alloc)?;
+    Ok(())
+}
+
+#[test]
+fn a_message_may_have_341_words(rt: HostRuntime) -> Result<(), Fail> {
+    let alloc = rt.alloc();
+    let text = Vec::from_slice(alloc, CONFIGURATION)?;
+    let mut host = MemHost::new(alloc, Some(text), 20_000, 1000)?;
+    let most = words_behind(alloc, WORDS_341, 340)?;
+    put_lines(alloc, &mut host, 0, most.as_slice())?;
+    assert!(rt; reports(alloc, &mut host, MANY_WORDS)?);
+    assert_eq!(rt; host.file(&DiskName::Task(0), 1), MANY_COUNTS);
+    let many = words_behind(alloc, WORDS_342, 341)?;
     let line = b"task Partition 0: offset 0 of kafka.lines: too many acts\n";
     assert!(rt; lines_refuse(alloc, CONFIGURATION, many.as_slice(), 5, line)?);
     Ok(())
