@@ -1,10 +1,10 @@
 -- The meanings of a disk in memory.
-use Rattle.std.specs.Prelude.{ℕ, Bool, ◌≤◌, ◌<◌, ◌-◌, length}
+use Rattle.std.specs.Prelude.{ℕ, Bool, ◌≤◌, ◌<◌, ◌-◌, length, nat_le}
 use Rattle.samza_model.specs.Files.{Image}
 use Rattle.disk_model.specs.FileStates.{FileState, IsImage}
 use Rattle.disk_model.specs.Handles.{SameDisk}
 use Rattle.disk_model.specs.Tallies.{fails_at}
-use Rattle.disk_model.specs.TraceWords.{bytes_of, now_of, then_of}
+use Rattle.disk_model.specs.TraceWords.{bytes_of, has_room_in, now_of, then_of}
 use Rattle.disk_model.specs.declared.memory_disk.MemDisk.{MemDisk}
 use Rattle.disk_model.specs.declared.names.DiskName.{DiskName}
 
@@ -40,6 +40,14 @@ mem_limit d = d.trace.limit
 -- a call with this number is told to fail
 abbrev pub mem_fails : MemDisk → ℕ → Bool
 mem_fails d number = fails_at d.tally.fail_at.items d.tally.stop_after (number - d.tally.from)
+
+-- as many calls were made as the record keeps
+abbrev pub is_spent : MemDisk → Bool
+is_spent d = nat_le d.trace.limit d.tally.calls
+
+-- there is such a file, with room for so many bytes at this place, and the record has room for them
+abbrev pub can_write : MemDisk → ℕ → ℕ → ℕ → Bool
+can_write d file at n = has_room_in d.trace file at n
 
 -- each file since its last sync
 abbrev pub mem_states : MemDisk → ℕ → FileState

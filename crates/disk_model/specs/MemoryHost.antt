@@ -41,6 +41,10 @@ host_shelves_out h n = shelves_in (slot_at h.slots.items n)
 abbrev pub host_faults : MemHost → ℕ
 host_faults h = h.tally.faults
 
+-- the greatest size of one file and of the bytes that are written to one disk, and the greatest number of calls of one disk
+abbrev pub host_bounds : MemHost → ℕ × ℕ
+host_bounds h = (h.room, h.calls)
+
 -- the number of calls of the host itself
 abbrev pub host_own_calls : MemHost → ℕ
 host_own_calls h = h.tally.calls

@@ -1,5 +1,5 @@
 -- What is said of the files of a disk in memory.
-use Rattle.std.specs.Prelude.{ℕ, ◌≡◌, ◌≢◌, length, take}
+use Rattle.std.specs.Prelude.{ℕ, ◌≡◌, ◌≢◌, ◌+◌, ◌&&◌, Bool, length, nat_le, nat_lt, take}
 use Rattle.samza_model.specs.Files.{Image}
 use Rattle.disk_model.specs.FileStates.{FileState}
 use Rattle.disk_model.specs.Traces.{bytes_at, state_of}
@@ -24,3 +24,7 @@ then_of t j = state_of t.start.items (take j t.noted.items) t.written.items
 pub record AtFile (file : ℕ) (change : FileState → FileState) (old new : ℕ → FileState) : Type 0 where
   pub here : new file ≡ change (old file)
   pub elsewhere : (f : ℕ) → f ≢ file → new f ≡ old f
+
+-- there is such a file, with room for so many bytes at this place, and the record has room for them
+abbrev pub has_room_in : Trace → ℕ → ℕ → ℕ → Bool
+has_room_in t file at n = nat_lt file (length t.files.items) && nat_le (at + n) t.room && nat_le (length t.written.items + n) t.room

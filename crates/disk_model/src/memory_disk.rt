@@ -49,6 +49,10 @@ impl MemDisk {
         ensures calls { IfOk result (λ d. ⟦<MemDisk as Disk>⟧.call_number d ≡ 0) }
         ensures faults { IfOk result (λ d. ⟦<MemDisk as Disk>⟧.fault_count d ≡ 0) }
         ensures files { IfOk result (λ d. mem_file_count d ≡ 0) }
+        ensures size { IfOk result (λ d. mem_size d ≡ files) }
+        ensures room { IfOk result (λ d. mem_room d ≡ room) }
+        ensures limit { IfOk result (λ d. mem_limit d ≡ calls) }
+        ensures fails { IfOk result (λ d. (number : ℕ) → mem_fails d number ≡ fails_at fail_at.items stop_after number) }
     {
         Ok(MemDisk {
             name,
@@ -145,7 +149,10 @@ impl MemDisk {
 }
 
 impl Disk for MemDisk {
-    ghost use Rattle.disk_model.specs.MemoryDisk.{mem_name, mem_reads, mem_images, mem_images_since, mem_calls, mem_faults};
+    ghost use Rattle.std.specs.Prelude.{◌≡◌, ◌+◌, ◌-◌, ◌^◌, ◌≤◌, ◌||◌, IfOk, OnErr, OnOk, drop, is_err, length, not, take};
+    ghost use Rattle.samza_model.specs.Counters.{next_number};
+    ghost use Rattle.disk_model.specs.Images.{Follows, HasCause, Joins, Keeps, Only, Shortened, Stays, TornCut, TornWrite, Written};
+    ghost use Rattle.disk_model.specs.MemoryDisk.{mem_name, mem_reads, mem_images, mem_images_since, mem_calls, mem_faults, mem_fails, can_write, is_spent};
     ghost use Rattle.disk_model.specs.MemoryLaws.{mem_read_is_image, mem_counts_now, mem_only_now};
 
     ghost tells = { Unit {0} };
@@ -162,33 +169,84 @@ impl Disk for MemDisk {
 
     ghost fault_count = { mem_faults };
 
-    fn size(&mut self, file: u32) -> Result<u64, DiskFault> {
+    fn size(&mut self, file: u32) -> Result<u64, DiskFault>
+        ensures size { IfOk result (λ n. n ≡ length (mem_reads self.old file)) }
+        ensures reads { mem_reads self.new ≡ mem_reads self.old }
+        ensures crash { Keeps (mem_images self.old) (mem_images self.new) }
+        ensures none_lost { Keeps (mem_images self.new) (mem_images self.old) }
+        ensures time { Joins (mem_calls self.old) (mem_images_since self.old) (mem_images_since self.new) (mem_images self.new) }
+        ensures called { mem_calls self.new ≡ next_number (mem_calls self.old) }
+        ensures cause { HasCause (mem_calls self.old) (mem_faults self.old) (mem_faults self.new) result }
+        ensures name { mem_name self.new ≡ mem_name self.old }
+        ensures fails { is_err result ≡ (mem_fails self.old (mem_calls self.old) || is_spent self.old) }
+    {
         let failing = self.tally.begin();
         let noted = self.trace.note(Entry::Quiet);
         let size = self.trace.bytes(file).len() as u64;
         self.tally.answer(failing, noted, size)
     }
 
-    fn read_at(&mut self, file: u32, at: u64, into: &mut [u8]) -> Result<(), DiskFault> {
+    fn read_at(&mut self, file: u32, at: u64, into: &mut [u8]) -> Result<(), DiskFault>
+        requires { at + length into.old ≤ length (mem_reads self.old file) }
+        ensures bytes { OnOk result (into.new ≡ take (length into.old) (drop at (mem_reads self.old file))) }
+        ensures reads { mem_reads self.new ≡ mem_reads self.old }
+        ensures crash { Keeps (mem_images self.old) (mem_images self.new) }
+        ensures none_lost { Keeps (mem_images self.new) (mem_images self.old) }
+        ensures time { Joins (mem_calls self.old) (mem_images_since self.old) (mem_images_since self.new) (mem_images self.new) }
+        ensures called { mem_calls self.new ≡ next_number (mem_calls self.old) }
+        ensures cause { HasCause (mem_calls self.old) (mem_faults self.old) (mem_faults self.new) result }
+        ensures name { mem_name self.new ≡ mem_name self.old }
+        ensures fails { is_err result ≡ (mem_fails self.old (mem_calls self.old) || is_spent self.old) }
+    {
         let failing = self.tally.begin();
         let noted = self.trace.note(Entry::Quiet);
         read_from(self.trace.bytes(file), at as usize, into);
         self.tally.answer(failing, noted, ())
     }
 
-    fn write_at(&mut self, file: u32, at: u64, bytes: &[u8]) -> Result<(), DiskFault> {
+    fn write_at(&mut self, file: u32, at: u64, bytes: &[u8]) -> Result<(), DiskFault>
+        requires { at ≤ length (mem_reads self.old file) }
+        ensures written { OnOk result (Written file at bytes.now (mem_reads self.old) (mem_reads self.new)) }
+        ensures crash { Follows (TornWrite file at (length bytes.now)) (mem_images self.old) (mem_images self.new) }
+        ensures spent { mem_calls self.old ≡ 2 ^ 64 - 1 → Stays (mem_reads self.old) (mem_reads self.new) (mem_images self.old) (mem_images self.new) }
+        ensures time { Joins (mem_calls self.old) (mem_images_since self.old) (mem_images_since self.new) (mem_images self.new) }
+        ensures called { mem_calls self.new ≡ next_number (mem_calls self.old) }
+        ensures cause { HasCause (mem_calls self.old) (mem_faults self.old) (mem_faults self.new) result }
+        ensures name { mem_name self.new ≡ mem_name self.old }
+        ensures fails { is_err result ≡ (mem_fails self.old (mem_calls self.old) || is_spent self.old || not (can_write self.old file at (length bytes.now))) }
+    {
         let failing = self.tally.begin();
         let made = self.trace.write(file, at as usize, bytes);
         self.tally.answer(failing, made, ())
     }
 
-    fn cut(&mut self, file: u32, size: u64) -> Result<(), DiskFault> {
+    fn cut(&mut self, file: u32, size: u64) -> Result<(), DiskFault>
+        requires { size ≤ length (mem_reads self.old file) }
+        ensures cut { OnOk result (Shortened file size (mem_reads self.old) (mem_reads self.new)) }
+        ensures crash { Follows (TornCut file size) (mem_images self.old) (mem_images self.new) }
+        ensures spent { mem_calls self.old ≡ 2 ^ 64 - 1 → Stays (mem_reads self.old) (mem_reads self.new) (mem_images self.old) (mem_images self.new) }
+        ensures time { Joins (mem_calls self.old) (mem_images_since self.old) (mem_images_since self.new) (mem_images self.new) }
+        ensures called { mem_calls self.new ≡ next_number (mem_calls self.old) }
+        ensures cause { HasCause (mem_calls self.old) (mem_faults self.old) (mem_faults self.new) result }
+        ensures name { mem_name self.new ≡ mem_name self.old }
+        ensures fails { is_err result ≡ (mem_fails self.old (mem_calls self.old) || is_spent self.old) }
+    {
         let failing = self.tally.begin();
         let made = self.trace.cut(file, size as usize);
         self.tally.answer(failing, made, ())
     }
 
-    fn sync(&mut self, file: u32) -> Result<(), DiskFault> {
+    fn sync(&mut self, file: u32) -> Result<(), DiskFault>
+        ensures durable { OnOk result (Only file (mem_reads self.old) (mem_images self.new)) }
+        ensures reads { mem_reads self.new ≡ mem_reads self.old }
+        ensures crash { Keeps (mem_images self.old) (mem_images self.new) }
+        ensures none_lost { OnErr result (Keeps (mem_images self.new) (mem_images self.old)) }
+        ensures time { Joins (mem_calls self.old) (mem_images_since self.old) (mem_images_since self.new) (mem_images self.new) }
+        ensures called { mem_calls self.new ≡ next_number (mem_calls self.old) }
+        ensures cause { HasCause (mem_calls self.old) (mem_faults self.old) (mem_faults self.new) result }
+        ensures name { mem_name self.new ≡ mem_name self.old }
+        ensures fails { is_err result ≡ (mem_fails self.old (mem_calls self.old) || is_spent self.old) }
+    {
         let failing = self.tally.begin();
         let synced = self.trace.note(sync_entry(failing, file));
         self.tally.answer(failing, synced, ())

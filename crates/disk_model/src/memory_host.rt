@@ -36,7 +36,7 @@ impl MemHost {
     ghost use Rattle.std.specs.Prelude.{◌≡◌, ◌≢◌, ◌+◌, ◌-◌, ℕ, [], None, false, IfOk, IfSome, OnOk, OnErr, max, length, MatchOption, option_map};
     ghost use Rattle.disk_model.specs.Handles.{AsMany, NoneOut};
     ghost use Rattle.disk_model.specs.Images.{Only, SameElsewhere};
-    ghost use Rattle.disk_model.specs.MemoryHost.{disk_of, host_text, host_reads, host_images, host_images_since, host_calls, host_file_count, host_disks_out, host_shelves_out, host_faults, host_fails, host_own_calls, host_armed, IsSameHeld};
+    ghost use Rattle.disk_model.specs.MemoryHost.{disk_of, host_text, host_reads, host_images, host_images_since, host_calls, host_file_count, host_disks_out, host_shelves_out, host_faults, host_fails, host_own_calls, host_armed, host_bounds, IsSameHeld};
     ghost use Rattle.disk_model.specs.Tallies.{fails_at};
     ghost use Rattle.disk_model.specs.MemoryDisk.{mem_states};
     ghost use Rattle.disk_model.specs.Picks.{IsPicked};
@@ -56,6 +56,7 @@ impl MemHost {
         ensures reads { IfOk result (λ h. (n : DiskName) (f : ℕ) → host_reads h n f ≡ []) }
         ensures file_count { IfOk result (λ h. (n : DiskName) → host_file_count h n ≡ 0) }
         ensures faults { IfOk result (λ h. host_faults h ≡ 0) }
+        ensures bounds { IfOk result (λ h. host_bounds h ≡ (room, calls)) }
     {
         Ok(MemHost {
             alloc,
@@ -92,6 +93,8 @@ impl MemHost {
         ensures shelves_out { AsMany (host_shelves_out self.old) (host_shelves_out self.new) }
         ensures text { host_text self.new ≡ host_text self.old }
         ensures faults { host_faults self.new ≡ host_faults self.old }
+        ensures bounds { host_bounds self.new ≡ host_bounds self.old }
+        ensures arms { (n : DiskName) (number : ℕ) → host_armed self.new n number ≡ host_armed self.old n number }
     {
         if has_slot(self.slots.as_slice(), name) {
             return Ok(());
@@ -120,6 +123,7 @@ impl MemHost {
         ensures shelves_out { AsMany (host_shelves_out self.old) (host_shelves_out self.new) }
         ensures text { host_text self.new ≡ host_text self.old }
         ensures faults { host_faults self.new ≡ host_faults self.old }
+        ensures bounds { host_bounds self.new ≡ host_bounds self.old }
     {
         self.ensure(self.alloc, name)?;
         match place_held(self.slots.as_mut_slice(), name, file, bytes) {
@@ -135,6 +139,7 @@ impl MemHost {
         ensures shelves_out { AsMany (host_shelves_out self.old) (host_shelves_out self.new) }
         ensures text { host_text self.new ≡ host_text self.old }
         ensures faults { host_faults self.new ≡ host_faults self.old }
+        ensures bounds { host_bounds self.new ≡ host_bounds self.old }
         ensures calls { host_own_calls self.new ≡ host_own_calls self.old }
         ensures fails { (number : ℕ) → host_fails self.new number ≡ (fails_at calls.items None (number - host_own_calls self.old)) }
         ensures arms { (n : DiskName) (number : ℕ) → host_armed self.new n number ≡ host_armed self.old n number }
@@ -156,6 +161,7 @@ impl MemHost {
         ensures shelves_out { AsMany (host_shelves_out self.old) (host_shelves_out self.new) }
         ensures text { host_text self.new ≡ host_text self.old }
         ensures faults { host_faults self.new ≡ host_faults self.old }
+        ensures bounds { host_bounds self.new ≡ host_bounds self.old }
         ensures armed { OnOk result ((number : ℕ) → host_armed self.new name.now number ≡ fails_at fail_at.items stop_after number) }
         ensures unarmed { OnErr result ((number : ℕ) → host_armed self.new name.now number ≡ host_armed self.old name.now number) }
         ensures arms { (n : DiskName) (number : ℕ) → n ≢ name.now → host_armed self.new n number ≡ host_armed self.old n number }
@@ -187,6 +193,7 @@ impl MemHost {
         ensures shelves_out { AsMany (host_shelves_out self.old) (host_shelves_out self.new) }
         ensures text { host_text self.new ≡ host_text self.old }
         ensures faults { host_faults self.new ≡ host_faults self.old }
+        ensures bounds { host_bounds self.new ≡ host_bounds self.old }
         ensures none_fails { (number : ℕ) → host_armed self.new name.now number ≡ false }
         ensures arms { (n : DiskName) (number : ℕ) → n ≢ name.now → host_armed self.new n number ≡ host_armed self.old n number }
     {
@@ -196,7 +203,14 @@ impl MemHost {
 }
 
 impl Host for MemHost {
-    ghost use Rattle.disk_model.specs.MemoryHost.{host_text, host_reads, host_images, host_images_since, host_calls, host_file_count, host_disks_out, host_shelves_out, host_faults};
+    ghost use Rattle.std.specs.Prelude.{◌≡◌, ◌≢◌, ◌↔◌, ◌≤◌, ◌-◌, ◌^◌, ℕ, true, None, Some, Err, IfOk, OnOk, OnErr, MatchOption, min};
+    ghost use Rattle.samza_model.specs.Counters.{Rose};
+    ghost use Rattle.disk_model.specs.Handles.{AsMany, OneMore, SameDisk};
+    ghost use Rattle.disk_model.specs.MemoryDisk.{mem_calls, mem_fails, mem_faults, mem_images, mem_images_since, mem_name, mem_reads};
+    ghost use Rattle.disk_model.specs.MemoryShelf.{shelf_bytes, shelf_fails, shelf_faults, shelf_file, shelf_name};
+    ghost use Rattle.disk_model.specs.declared.names.DiskName.{DiskName};
+    ghost use Rattle.disk_model.specs.declared.names.DiskName.TheVariants.{Stream};
+    ghost use Rattle.disk_model.specs.MemoryHost.{host_text, host_reads, host_images, host_images_since, host_calls, host_file_count, host_disks_out, host_shelves_out, host_faults, host_fails, host_own_calls, host_armed, IsSameHeld};
     ghost use Rattle.disk_model.specs.HostLaws.{host_none_above};
 
     type Disk = MemDisk;
@@ -223,14 +237,31 @@ impl Host for MemHost {
 
     ghost fault_count = { host_faults };
 
-    fn enter(&mut self, _alloc: Global, _folder: &str) -> Result<(), HostFault> {
+    fn enter(&mut self, _alloc: Global, _folder: &str) -> Result<(), HostFault>
+        ensures text_stays { host_text self.new ≡ host_text self.old }
+        ensures disks { (n : DiskName) → IsSameHeld self.old self.new n }
+        ensures disks_out { AsMany (host_disks_out self.old) (host_disks_out self.new) }
+        ensures shelves_out { AsMany (host_shelves_out self.old) (host_shelves_out self.new) }
+        ensures later { host_faults self.old ≤ host_faults self.new }
+        ensures device { result ≡ Err HostFault.Device → Rose (host_faults self.old) (host_faults self.new) }
+        ensures told { (result ≡ Err HostFault.Device) ↔ (host_fails self.old (host_own_calls self.old) ≡ true) }
+    {
         if self.tally.fails() {
             return Err(HostFault::Device);
         }
         Ok(())
     }
 
-    fn text(&mut self, alloc: Global) -> Result<Option<Vec<u8>>, HostFault> {
+    fn text(&mut self, alloc: Global) -> Result<Option<Vec<u8>>, HostFault>
+        ensures text { IfOk result (λ t. MatchOption t (host_text self.old ≡ None) (λ v. host_text self.old ≡ Some v.items)) }
+        ensures text_stays { host_text self.new ≡ host_text self.old }
+        ensures disks { (n : DiskName) → IsSameHeld self.old self.new n }
+        ensures disks_out { AsMany (host_disks_out self.old) (host_disks_out self.new) }
+        ensures shelves_out { AsMany (host_shelves_out self.old) (host_shelves_out self.new) }
+        ensures later { host_faults self.old ≤ host_faults self.new }
+        ensures device { result ≡ Err HostFault.Device → Rose (host_faults self.old) (host_faults self.new) }
+        ensures told { (result ≡ Err HostFault.Device) ↔ (host_fails self.old (host_own_calls self.old) ≡ true) }
+    {
         if self.tally.fails() {
             return Err(HostFault::Device);
         }
@@ -240,7 +271,16 @@ impl Host for MemHost {
         }
     }
 
-    fn partitions(&mut self, alloc: Global, system: &Bin, stream: &Bin) -> Result<u32, HostFault> {
+    fn partitions(&mut self, alloc: Global, system: &Bin, stream: &Bin) -> Result<u32, HostFault>
+        ensures count { IfOk result (λ n. n ≡ min (host_file_count self.old (Stream system.now stream.now)) (2 ^ 32 - 1)) }
+        ensures text_stays { host_text self.new ≡ host_text self.old }
+        ensures disks { (n : DiskName) → IsSameHeld self.old self.new n }
+        ensures disks_out { AsMany (host_disks_out self.old) (host_disks_out self.new) }
+        ensures shelves_out { AsMany (host_shelves_out self.old) (host_shelves_out self.new) }
+        ensures later { host_faults self.old ≤ host_faults self.new }
+        ensures device { result ≡ Err HostFault.Device → Rose (host_faults self.old) (host_faults self.new) }
+        ensures told { (result ≡ Err HostFault.Device) ↔ (host_fails self.old (host_own_calls self.old) ≡ true) }
+    {
         if self.tally.fails() {
             return Err(HostFault::Device);
         }
@@ -250,7 +290,22 @@ impl Host for MemHost {
         }
     }
 
-    fn shelf(&mut self, alloc: Global, name: &DiskName, file: u32) -> Result<MemShelf, HostFault> {
+    fn shelf(&mut self, alloc: Global, name: &DiskName, file: u32) -> Result<MemShelf, HostFault>
+        requires disk_in { host_disks_out self.old name.now ≡ 0 }
+        ensures bytes { IfOk result (λ s. shelf_bytes s ≡ host_reads self.old name.now file) }
+        ensures name { IfOk result (λ s. shelf_name s ≡ name.now) }
+        ensures file { IfOk result (λ s. shelf_file s ≡ file) }
+        ensures fresh { IfOk result (λ s. shelf_faults s ≡ 0) }
+        ensures armed { IfOk result (λ s. (number : ℕ) → shelf_fails s number ≡ host_armed self.old name.now number) }
+        ensures shelves_out { OnOk result (OneMore name.now (host_shelves_out self.old) (host_shelves_out self.new)) }
+        ensures refused { OnErr result (AsMany (host_shelves_out self.old) (host_shelves_out self.new)) }
+        ensures text_stays { host_text self.new ≡ host_text self.old }
+        ensures disks { (n : DiskName) → IsSameHeld self.old self.new n }
+        ensures disks_out { AsMany (host_disks_out self.old) (host_disks_out self.new) }
+        ensures later { host_faults self.old ≤ host_faults self.new }
+        ensures device { result ≡ Err HostFault.Device → Rose (host_faults self.old) (host_faults self.new) }
+        ensures told { (result ≡ Err HostFault.Device) ↔ (host_fails self.old (host_own_calls self.old) ≡ true) }
+    {
         if self.tally.fails() {
             return Err(HostFault::Device);
         }
@@ -270,7 +325,24 @@ impl Host for MemHost {
         Ok(shelf)
     }
 
-    fn lend(&mut self, alloc: Global, name: &DiskName) -> Result<MemDisk, HostFault> {
+    fn lend(&mut self, alloc: Global, name: &DiskName) -> Result<MemDisk, HostFault>
+        requires disk_in { host_disks_out self.old name.now ≡ 0 }
+        requires shelves_in { host_shelves_out self.old name.now ≡ 0 }
+        ensures disk { IfOk result (λ d. SameDisk (host_reads self.old name.now) (host_images self.old name.now) (host_images_since self.old name.now) (host_calls self.old name.now)
+            (mem_reads d) (mem_images d) (mem_images_since d) (mem_calls d)) }
+        ensures name { IfOk result (λ d. mem_name d ≡ name.now) }
+        ensures fresh { IfOk result (λ d. mem_faults d ≡ 0) }
+        ensures armed { IfOk result (λ d. (number : ℕ) → mem_fails d number ≡ host_armed self.old name.now (number - mem_calls d)) }
+        ensures disks_out { OnOk result (OneMore name.now (host_disks_out self.old) (host_disks_out self.new)) }
+        ensures refused { OnErr result (AsMany (host_disks_out self.old) (host_disks_out self.new)) }
+        ensures kept { OnErr result (IsSameHeld self.old self.new name.now) }
+        ensures text_stays { host_text self.new ≡ host_text self.old }
+        ensures disks { (n : DiskName) → n ≢ name.now → IsSameHeld self.old self.new n }
+        ensures shelves_out { AsMany (host_shelves_out self.old) (host_shelves_out self.new) }
+        ensures later { host_faults self.old ≤ host_faults self.new }
+        ensures device { result ≡ Err HostFault.Device → Rose (host_faults self.old) (host_faults self.new) }
+        ensures told { (result ≡ Err HostFault.Device) ↔ (host_fails self.old (host_own_calls self.old) ≡ true) }
+    {
         if self.tally.fails() {
             return Err(HostFault::Device);
         }

@@ -62,7 +62,7 @@ impl Trace {
     ghost use Rattle.disk_model.specs.FileStates.{after, at_rest, with_written, with_cut};
     ghost use Rattle.disk_model.specs.Picks.{IsCrashOf};
     ghost use Rattle.disk_model.specs.Traces.{is_still};
-    ghost use Rattle.disk_model.specs.TraceWords.{count_of, now_of, then_of, bytes_of, AtFile};
+    ghost use Rattle.disk_model.specs.TraceWords.{count_of, now_of, then_of, bytes_of, has_room_in, AtFile};
 
     /// Empty files, and all the memory that the calls will need.
     pub(crate) fn new(
@@ -75,6 +75,8 @@ impl Trace {
         ensures limit { IfOk result (λ t. t.limit ≡ calls) }
         ensures empty { IfOk result (λ t. (f : ℕ) → now_of t f ≡ at_rest []) }
         ensures there { IfOk result (λ t. t.there ≡ 0) }
+        ensures room { IfOk result (λ t. t.room ≡ room) }
+        ensures files { IfOk result (λ t. length t.files.items ≡ files) }
     {
         Ok(Trace {
             start: empty_files(alloc, files, room)?,
@@ -123,9 +125,7 @@ impl Trace {
     }
 
     fn has_room(&self, file: u32, at: usize, len: usize) -> bool
-        ensures there { result ≡ true → file < length self.now.files.items }
-        ensures reach { result ≡ true → at + len ≤ self.now.room }
-        ensures used { result ≡ true → length self.now.written.items + len ≤ self.now.room }
+        ensures { result ≡ has_room_in self.now file at len }
     {
         (file as usize) < self.files.len()
             && at <= self.room
@@ -137,6 +137,7 @@ impl Trace {
     /// Writes bytes, if there is room. If not, or where the record is full, it is false, and no bytes change.
     pub(crate) fn write(&mut self, file: u32, at: usize, bytes: &[u8]) -> bool
         ensures full { self.old.limit ≤ count_of self.old → result ≡ false }
+        ensures room { count_of self.old < self.old.limit → result ≡ has_room_in self.old file at (length bytes.now) }
         ensures limit { self.new.limit ≡ self.old.limit }
         ensures count { count_of self.new ≡ min (count_of self.old + 1) self.old.limit }
         ensures past { (j f : ℕ) → (count_of self.old < self.old.limit → j ≤ count_of self.old) → then_of self.new j f ≡ then_of self.old j f }
@@ -179,6 +180,7 @@ impl Trace {
     /// Cuts a file to a size. Where the record is full it is false, and nothing changes.
     pub(crate) fn cut(&mut self, file: u32, size: usize) -> bool
         ensures full { self.old.limit ≤ count_of self.old → result ≡ false }
+        ensures open { count_of self.old < self.old.limit → result ≡ true }
         ensures limit { self.new.limit ≡ self.old.limit }
         ensures count { count_of self.new ≡ min (count_of self.old + 1) self.old.limit }
         ensures past { (j f : ℕ) → (count_of self.old < self.old.limit → j ≤ count_of self.old) → then_of self.new j f ≡ then_of self.old j f }

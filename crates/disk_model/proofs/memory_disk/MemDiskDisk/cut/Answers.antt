@@ -6,14 +6,14 @@ use Rattle.disk_model.specs.TraceWords.{now_of}
 use Rattle.disk_model.proofs.memory_disk.MemDiskDisk.cut.Goals as goal
 
 pub returns-clause-time : goal.returns-clause-time
-returns-clause-time c = λ told.
+returns-clause-time c =
     let old = c.args.self.now in
     let new = c.cut-made.new.self in
     let calls = old.tally.calls in
     joins_trace calls c.answer.new.self.calls old.trace new (omega (arith, c.answer.ensures.calls, c.begin-failing.ensures.calls)) (omega (arith, c.answer.ensures.calls, c.begin-failing.ensures.calls)) old.counted c.cut-made.ensures.count c.cut-made.ensures.past
 
 pub returns-clause-crash : goal.returns-clause-crash
-returns-clause-crash c = λ told.
+returns-clause-crash c =
     let old = c.args.self.now.trace in
     let new = c.cut-made.new.self in
     elim (cases_Bool c.cut-made.result) [

@@ -3,7 +3,7 @@ use Rattle.disk_model.proofs.Steps.{joins_trace}
 use Rattle.disk_model.proofs.memory_disk.MemDiskDisk.read_at.Goals as goal
 
 pub returns-clause-time : goal.returns-clause-time
-returns-clause-time c = λ told.
+returns-clause-time c =
     let old = c.args.self.now in
     let new = c.note-noted.new.self in
     let calls = old.tally.calls in

@@ -10,14 +10,14 @@ use Rattle.disk_model.specs.declared.traces.Entry.TheVariants.{Quiet, Synced}
 use Rattle.disk_model.proofs.memory_disk.MemDiskDisk.sync.Goals as goal
 
 pub returns-clause-time : goal.returns-clause-time
-returns-clause-time c = λ told.
+returns-clause-time c =
     let old = c.args.self.now in
     let new = c.note-synced.new.self in
     let calls = old.tally.calls in
     joins_trace calls c.answer.new.self.calls old.trace new (omega (arith, c.answer.ensures.calls, c.begin-failing.ensures.calls)) (omega (arith, c.answer.ensures.calls, c.begin-failing.ensures.calls)) old.counted c.note-synced.ensures.count c.note-synced.ensures.past
 
 pub returns-clause-crash : goal.returns-clause-crash
-returns-clause-crash c = λ told.
+returns-clause-crash c =
     let old = c.args.self.now.trace in
     let new = c.note-synced.new.self in
     let file = c.args.file in

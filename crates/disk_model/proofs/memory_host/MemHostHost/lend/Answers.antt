@@ -47,7 +47,7 @@ invariant_of-self-2 c =
 
 pub returns-in-Some-clause-disk : goal.returns-in-Some-clause-disk
 unfolding Step
-returns-in-Some-clause-disk c = λ told.
+returns-in-Some-clause-disk c =
     let p = step (goal.at.returns-in-Some-clause-disk c).After-take_held in
     let mid = c.ensure.new.self in
     let n = c.args.name.now in
@@ -76,7 +76,7 @@ returns-in-Some-clause-disks_out c =
 
 pub returns-in-Some-clause-disks : goal.returns-in-Some-clause-disks
 unfolding Step
-returns-in-Some-clause-disks c = λ told m ne.
+returns-in-Some-clause-disks c = λ m ne.
     let p = step (goal.at.returns-in-Some-clause-disks c).After-take_held in
     let q = c.ensure.ensures.disks m in
     let first : SameIn (disk_of c.args.self.now m) (disk_of c.ensure.new.self m) = record { disk = q.disk; files = q.files_are } in

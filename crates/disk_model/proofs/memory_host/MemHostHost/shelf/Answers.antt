@@ -52,14 +52,14 @@ invariant_of-self-2 c =
     record { named = λ m d e. c.ensure.new.self.named m d (sym (held_kept a m) ∙ e) }
 
 pub returns-then-not-one_out-clause-disks : goal.returns-then-not-one_out-clause-disks
-returns-then-not-one_out-clause-disks c = λ told m.
+returns-then-not-one_out-clause-disks c = λ m.
     let a = (goal.at.returns-then-not-one_out-clause-disks c).After-one_out in
     let q = c.ensure.ensures.disks m in
     let first : SameIn (disk_of c.args.self.now m) (disk_of c.ensure.new.self m) = record { disk = q.disk; files = q.files_are } in
     held_from c.args.self.now _ m (in_trans _ _ _ first (in_from _ _ (held_kept a m)))
 
 pub returns-clause-disks : goal.returns-clause-disks
-returns-clause-disks c = λ told m.
+returns-clause-disks c = λ m.
     let a = (goal.at.returns-clause-disks c).After-one_out in
     let q = c.ensure.ensures.disks m in
     let first : SameIn (disk_of c.args.self.now m) (disk_of c.ensure.new.self m) = record { disk = q.disk; files = q.files_are } in
