@@ -14,7 +14,7 @@ use log_frame::{Frame, frames_of};
 use samza_model::{Bin, Items, NoMemory, Plain, Record};
 use std::alloc::Global;
 use std::test::Fail;
-use topic_log::{Log, LogFault, Place, read_shelf};
+use topic_log::{Log, LogFault, Place, produce_one, read_shelf};
 
 /// A disk of one empty file, whose calls behind the first so many fail.
 fn empty_disk(alloc: Global, stop_after: Option<u64>) -> Result<MemDisk, NoMemory> {
@@ -72,6 +72,29 @@ fn a_file_that_is_no_log_is_damaged_where_reading_stops(rt: HostRuntime) -> Resu
         let found = read_shelf(alloc, &mut shelf);
         assert_eq!(rt; found.err(), Some(LogFault::Damaged { at }));
     }
+    Ok(())
+}
+
+#[test]
+fn a_record_is_produced_behind_those_of_the_file(rt: HostRuntime) -> Result<(), Fail> {
+    let alloc = rt.alloc();
+    let removal = Record {
+        key: Bin::of(alloc, b"b")?,
+        value: None,
+    };
+    let mut disk = disk_of(alloc, &[])?;
+    assert_eq!(rt; produce_one(alloc, &mut disk, 0, &removal)?, 0);
+    let mut disk = disk_of(alloc, &counted(1))?;
+    assert_eq!(rt; produce_one(alloc, &mut disk, 0, &removal)?, 1);
+    let bytes = [
+        0x4F, 0, 0, 0, 0x0A, 0, 0, 0, 1, 0, 0, 0, 1, 0x61, 0, 0, 0, 1, 0x31, // a, 1
+        0x4F, 0, 0, 0, 9, 0, 0, 0, 1, 0, 0, 0, 1, 0x62, 0xFF, 0xFF, 0xFF, 0xFF, // b without a value
+        0x43,
+    ];
+    assert_eq!(rt; disk.bytes(0), bytes.as_slice());
+    let mut disk = disk_of(alloc, &counted(2))?;
+    let refused = produce_one(alloc, &mut disk, 0, &removal);
+    assert_eq!(rt; refused.err(), Some(LogFault::Damaged { at: 19 }));
     Ok(())
 }
 

@@ -6,6 +6,7 @@ mod Listing
 pub mod Logged
 mod Headers
 pub mod Moving
+mod Produced
 mod Putting
 pub mod Spelling
 mod Settling

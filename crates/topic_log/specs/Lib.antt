@@ -5,5 +5,6 @@ pub mod Faults
 pub mod Lists
 pub mod Moves
 pub mod Opened
+pub mod Producing
 pub mod Steps
 pub mod Walks

@@ -1,0 +1,48 @@
+-- A record that is appended to a file, from its opening on.
+use Rattle.std.proofs.Common.{ℕ, ◌≡◌, ◌≤◌, ◌<◌, ◌+◌, ◌^◌, ◌⊎◌, inl, inr, List, [], ◌∷◌, ◌++◌, length, sym, ◌∙◌, ap, subst, arith}
+use Rattle.samza_model.specs.declared.messages.Record.{Record}
+use Rattle.samza_model.specs.Files.{Image}
+use Rattle.samza_model.specs.Frames.{frame_bytes}
+use Rattle.samza_model.specs.Logs.{spelled, HasFrames}
+use Rattle.disk_model.specs.Images.{LeavesOnly}
+use Rattle.disk_model.proofs.Moments.{followed_from, weaker}
+use Rattle.topic_log.specs.declared.logs.Log.{Log}
+use Rattle.topic_log.specs.Opened.{file_of, size_of, IsOpen, KeepsFrames, Appends}
+use Rattle.topic_log.specs.Producing.{Produces, IsFull}
+use Rattle.topic_log.proofs.Logged.{open_log_has}
+use Rattle.topic_log.proofs.Spelling.{frames_unique}
+
+produces_kept : (file : ℕ) (body : Record) (a b : Image) → KeepsFrames file a b → Produces file body a b
+produces_kept file body a b k = record { here = λ frames has. inl (k.here frames has); elsewhere = k.elsewhere }
+
+module _ {D : Type 0} (number : D → ℕ) (images : D → Image → Type 0) (since : D → ℕ → Image → Type 0) where
+  -- the file was opened
+  pub produces_opened : (old mid : D) (file : ℕ) (body : Record) → LeavesOnly number images since old mid (KeepsFrames file) → LeavesOnly number images since old mid (Produces file body)
+  produces_opened old mid file body run = weaker number images since old mid (KeepsFrames file) (Produces file body) run (λ a b now k. produces_kept file body a b k)
+
+  -- and the record appended
+  pub produces_appended : (reads : D → Image) (old mid new : D) (file : ℕ) (body : Record) (log : Log) (before : List (List Record))
+      → ((k : ℕ) (c : Image) → k ≤ number mid → images mid c → since mid k c)
+      → LeavesOnly number images since old mid (KeepsFrames file)
+      → file_of log ≡ file → IsOpen (reads mid) (images mid) log before
+      → LeavesOnly number images since mid new (Appends (file_of log) before ((body ∷ []) ∷ []))
+      → LeavesOnly number images since old new (Produces file body)
+  produces_appended reads old mid new file body log before counts one is h two =
+      followed_from number images since old mid new (KeepsFrames file) (Appends file before ((body ∷ []) ∷ [])) (Produces file body) counts one
+      (subst (λ (f : ℕ). LeavesOnly number images since mid new (Appends f before ((body ∷ []) ∷ []))) is two)
+      (λ a b c was now k s. record {
+        here = λ frames has.
+            let has_before : HasFrames (b file) before = subst (λ (f : ℕ). HasFrames (b f) before) is (open_log_has (reads mid) (images mid) log before h b now) in
+            let same : before ≡ frames = frames_unique (b file) before frames has_before (k.here frames has) in
+            subst (λ (fs : List (List Record)). HasFrames (c file) fs ⊎ HasFrames (c file) (fs ++ (body ∷ []) ∷ [])) same s.here;
+        elsewhere = λ f other. s.elsewhere f other ∙ k.elsewhere f other;
+      })
+      (λ a b was k. produces_kept file body a b k)
+
+-- a log with room for the record isn't full of it
+pub has_room_for : (bytes : List ℕ) (log : Log) (before : List (List Record)) (body : Record) → HasFrames bytes before → size_of log ≡ length (spelled before) + 1
+    → size_of log + length (frame_bytes (body ∷ [])) + 1 ≤ 2 ^ 40 → IsFull bytes body → ⊥
+has_room_for bytes log before body has size room full =
+    let same : before ≡ full.frames = frames_unique bytes before full.frames has full.has in
+    let passes : 2 ^ 40 < length (spelled before) + length (frame_bytes (body ∷ [])) + 2 = subst (λ (fs : List (List Record)). 2 ^ 40 < length (spelled fs) + length (frame_bytes (body ∷ [])) + 2) (sym same) full.passes in
+    omega (arith, size, room, passes)

@@ -1,0 +1,25 @@
+-- One record that is appended to a file, in a frame of its own.
+use Rattle.std.specs.Prelude.{ℕ, ◌≡◌, ◌<◌, ◌+◌, ◌^◌, ◌⊎◌, List, [], ◌∷◌, ◌++◌, length}
+use Rattle.samza_model.specs.declared.messages.Record.{Record}
+use Rattle.samza_model.specs.Files.{Image}
+use Rattle.samza_model.specs.Frames.{frame_bytes}
+use Rattle.samza_model.specs.Logs.{spelled, joined, HasFrames}
+use Rattle.disk_model.specs.Images.{SameElsewhere}
+
+-- behind the frames that it had, the file has one of this record, whose offset is the number of records before it
+pub record IsProduced (before after : List ℕ) (body : Record) (offset : ℕ) : Type 0 where
+  pub frames : List (List Record)
+  pub had : HasFrames before frames
+  pub has : HasFrames after (frames ++ (body ∷ []) ∷ [])
+  pub offset_is : offset ≡ length (joined frames)
+
+-- the file has the frames that it had, or these and one of this record, and the other files are the same
+pub record Produces (file : ℕ) (body : Record) (old new : Image) : Type 0 where
+  pub here : (frames : List (List Record)) → HasFrames (old file) frames → HasFrames (new file) frames ⊎ HasFrames (new file) (frames ++ (body ∷ []) ∷ [])
+  pub elsewhere : SameElsewhere file old new
+
+-- with a frame of this record the file would pass 2^40 bytes
+pub record IsFull (bytes : List ℕ) (body : Record) : Type 0 where
+  pub frames : List (List Record)
+  pub has : HasFrames bytes frames
+  pub passes : 2 ^ 40 < length (spelled frames) + length (frame_bytes (body ∷ [])) + 2
