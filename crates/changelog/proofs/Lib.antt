@@ -1,2 +1,4 @@
 mod Folding
+mod KeySets
 mod Replaying
+pub mod Reverting

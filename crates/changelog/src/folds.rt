@@ -1,61 +1,90 @@
-// The map of a changelog's records.
-ghost use Rattle.std.specs.Prelude.{◌≡◌, ◌≢◌, ◌≤◌, ◌⊎◌, ℕ, false, List, IfOk, IfErr, OnOk};
-ghost use Rattle.samza_model.specs.declared.messages.Record.{Record};
-ghost use Rattle.samza_model.specs.Content.{foldrec};
-ghost use Rattle.samza_model.specs.Counters.{Rose};
-ghost use Rattle.samza_model.specs.Logs.{joined};
-ghost use Rattle.kv_store.specs.Tracked.{AreWithinLimits};
-ghost use Rattle.topic_log.specs.declared.logs.Log.{Log as LogValue};
-ghost use Rattle.topic_log.specs.Moves.{Rests};
-ghost use Rattle.topic_log.specs.Opened.{file_of, is_broken, IsOpen};
+// What is made of a changelog's records as they are read.
+ghost use Rattle.std.specs.Prelude.{◌≡◌, ◌++◌, ◌∷◌, [], ℕ, List, IfOk, OnOk};
+ghost use Rattle.samza_model.specs.declared.messages.Record.{Record as RecordValue};
+ghost use Rattle.samza_model.specs.Content.{updated};
+ghost use Rattle.std.specs.FinMap as fin;
+ghost use Rattle.kv_store.specs.Tracked.{set_of};
 
-use crate::replays::put_all;
-use disk_model::Disk;
 use kv_store::Table;
+use samza_model::{Bin, NoMemory, Record};
 use std::alloc::Global;
-use topic_log::{Log, LogFault};
+use std::collections::BTreeSet;
 
-/// The map that the log's records make, one after another: a record with a value sets its key, one without takes it
-/// away. The log is not broken. It reads one batch at a time, so its memory grows with the map and not with the log.
-///
-/// `Device` leaves the log broken. `Damaged` never comes where the disk tells its bytes.
-pub fn fold<D: Disk>(alloc: Global, log: &mut Log, disk: &mut D) -> Result<Table, LogFault>
-    requires opened { D.tells → (frames : List (List Record)) × IsOpen (D.reads disk.old) (D.images disk.old) log.old frames }
-    requires sound { is_broken log.old ≡ false }
+/// The map of the counted records, which come first, the number of those still to come, and the keys of the others.
+#[derive(Drop)]
+pub(crate) struct Fold {
+    table: Table,
+    left: u64,
+    touched: BTreeSet<Bin>,
+}
 
-    ensures folded { IfOk result (λ t. D.tells → (frames : List (List Record)) → IsOpen (D.reads disk.old) (D.images disk.old) log.old frames → t ≡ foldrec (joined frames)) }
-    ensures limits { IfOk result (λ t. AreWithinLimits t) }
+impl Fold {
+    ghost use Rattle.changelog.specs.Folds.{IsFold};
+    ghost use Rattle.changelog.specs.Reading.{HasRead};
 
-    ensures log { OnOk result (log.new ≡ log.old) }
-    ensures kept { IfErr result (λ e. e ≢ LogFault.Device → log.new ≡ log.old) }
-    ensures file { file_of log.new ≡ file_of log.old }
-    // Nothing but reads was called: at each moment the images are those before.
-    ensures rests { D.tells → Rests D.reads D.call_number D.images D.images_since disk.old disk.new }
-    ensures reads { D.tells → D.reads disk.new ≡ D.reads disk.old }
-    ensures others { D.tells → (l : LogValue) (frames : List (List Record)) → IsOpen (D.reads disk.old) (D.images disk.old) l frames → IsOpen (D.reads disk.new) (D.images disk.new) l frames }
-
-    ensures fault { IfErr result (λ e. D.tells → (e ≡ LogFault.Device) ⊎ (e ≡ LogFault.NoMemory)) }
-    ensures never_limit { IfErr result (λ e. e ≢ LogFault.Limit) }
-    ensures never_broken { IfErr result (λ e. e ≢ LogFault.Broken) }
-    ensures device { IfErr result (λ e. e ≡ LogFault.Device → Rose (D.fault_count disk.old) (D.fault_count disk.new)) }
-    ensures later { D.fault_count disk.old ≤ D.fault_count disk.new }
-    ensures name { D.name disk.new ≡ D.name disk.old }
-{
-    let mut table = Table::new(alloc);
-    let mut place = log.start();
-    'batches: loop {
-        let found = match log.batch(alloc, disk, place) {
-            Ok(found) => found,
-            Err(fault) => return Err(fault),
-        };
-        let (records, next) = match found {
-            Some(batch) => batch,
-            None => return Ok(table),
-        };
-        match put_all(&mut table, records.into_vec()) {
-            Ok(()) => {}
-            Err(_) => return Err(LogFault::NoMemory),
+    /// No record was read, of which so many are counted.
+    pub(crate) fn new(alloc: Global, count: u64) -> Fold
+        ensures { HasRead count [] result }
+    {
+        Fold {
+            table: Table::new(alloc),
+            left: count,
+            touched: BTreeSet::new(alloc),
         }
-        place = next;
+    }
+
+    /// Reads the records, one after another. They are moved, not copied.
+    pub(crate) fn read_all(&mut self, records: Vec<Record>) -> Result<(), NoMemory>
+        ensures { OnOk result ((count : ℕ) (before : List RecordValue) → HasRead count before self.old → HasRead count (before ++ records.items) self.new) }
+    {
+        for next in records {
+            match self.read(next) {
+                Ok(()) => {}
+                Err(fault) => return Err(fault),
+            }
+        }
+        Ok(())
+    }
+
+    /// Reads one record more.
+    fn read(&mut self, next: Record) -> Result<(), NoMemory>
+        ensures { OnOk result ((count : ℕ) (before : List RecordValue) → HasRead count before self.old → HasRead count (before ++ next ∷ []) self.new) }
+    {
+        let Record { key, value } = next;
+        if self.left == 0 {
+            self.touched.insert(key)?;
+            return Ok(());
+        }
+        self.left -= 1;
+        put(&mut self.table, key, value)
+    }
+
+    /// The map, and the keys in the order of their bytes.
+    pub(crate) fn into_parts(self, alloc: Global) -> Result<(Table, Vec<Bin>), NoMemory>
+        ensures { IfOk result (λ r. (count : ℕ) (records : List RecordValue) → HasRead count records self → IsFold count records r.0 r.1.items) }
+    {
+        let Fold { table, touched, .. } = self;
+        let keys = in_order(alloc, touched)?;
+        Ok((table, keys))
+    }
+}
+
+/// The keys in the order of their bytes.
+fn in_order(alloc: Global, keys: BTreeSet<Bin>) -> Result<Vec<Bin>, NoMemory>
+    ensures { IfOk result (λ sorted. sorted.items ≡ fin.keys (set_of keys.keys)) }
+{
+    Ok(keys.into_iter().collect(alloc)?)
+}
+
+/// Sets the key to the value, or takes it away where there is none.
+fn put(table: &mut Table, key: Bin, value: Option<Bin>) -> Result<(), NoMemory>
+    ensures { OnOk result (table.new ≡ updated table.old key value) }
+{
+    match value {
+        Some(value) => table.put(key, value),
+        None => {
+            table.delete(&key);
+            Ok(())
+        }
     }
 }

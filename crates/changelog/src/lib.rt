@@ -1,10 +1,13 @@
-//! The changelog of a store: the map that its records make.
+//! The changelog of a store: the map that its first records make, what takes the others back, and frames appended to it.
 #![tactic(auto)]
 
+mod changelogs;
 mod folds;
-mod replays;
+mod reverts;
 
-pub use folds::fold;
+pub use changelogs::Changelog;
+pub use log_frame::frames_of;
+pub use reverts::revert;
 
 #[cfg(test)]
 mod tests;

@@ -1,16 +1,16 @@
-ghost use Rattle.std.specs.Prelude.{◌≡◌, ◌∷◌, [], IfOk};
-ghost use Rattle.std.specs.Option.{option_copied};
+// A log of two frames, folded at each count, and its tail taken back. What is wanted was found by hand.
+ghost use Rattle.std.specs.Prelude.{◌≡◌, ◌≤◌, length, IfOk};
 ghost use Rattle.std.specs.List.{AllByRecursion};
 ghost use Rattle.samza_model.specs.Limits.{IsWithinLimits};
+ghost use Rattle.kv_store.specs.Tracked.{AreWithinLimits};
 
-use crate::fold;
+use crate::{Changelog, frames_of, revert};
 use disk_model::{Disk, DiskName, MemDisk};
 use kv_store::Table;
-use log_frame::frames_of;
 use samza_model::{Bin, NoMemory, Record};
 use std::alloc::Global;
 use std::test::Fail;
-use topic_log::{Log, LogFault};
+use topic_log::LogFault;
 
 fn set(alloc: Global, key: &[u8; 1], value: &[u8; 1]) -> Result<Record, NoMemory>
     ensures { IfOk result IsWithinLimits }
@@ -30,39 +30,152 @@ fn removal(alloc: Global, key: &[u8; 1]) -> Result<Record, NoMemory>
     })
 }
 
-/// Adds the records in frames of two.
-fn add<D: Disk>(alloc: Global, disk: &mut D, records: &[Record]) -> Result<(), LogFault>
+/// Writes the records in frames of three, and answers how many device calls that took.
+fn add<D: Disk>(alloc: Global, disk: &mut D, records: &[Record]) -> Result<u64, LogFault>
     requires { AllByRecursion IsWithinLimits records.now }
 {
-    let mut log = Log::open_log(alloc, disk, 1)?;
-    let frames = frames_of(alloc, records, 2)?;
-    log.append_all(disk, frames.as_slice())?;
-    Ok(())
+    let mut log = Changelog::open_changelog(alloc, disk, 1)?;
+    let frames = frames_of(alloc, records, 3)?;
+    let before = disk.calls();
+    log.write(disk, frames.as_slice())?;
+    Ok(disk.calls().saturating_sub(before))
 }
 
-/// The map of the log.
-fn map_of<D: Disk>(alloc: Global, disk: &mut D) -> Result<Table, LogFault> {
-    let mut log = Log::open_log(alloc, disk, 1)?;
-    fold(alloc, &mut log, disk)
-}
-
-#[test]
-fn a_log_of_two_frames_folds_to_its_last_values(rt: HostRuntime) -> Result<(), Fail> {
-    let alloc = rt.alloc();
-    let mut disk = MemDisk::new(alloc, DiskName::Task(0), 2, 200, 100, Vec::new(alloc), None)?;
+/// Frames (a, 1), (b, 1), without a; and (b, 3), (c, 2).
+fn add_five<D: Disk>(alloc: Global, disk: &mut D) -> Result<u64, LogFault> {
     let records = [
         set(alloc, b"a", b"1")?,
         set(alloc, b"b", b"1")?,
         removal(alloc, b"a")?,
+        set(alloc, b"b", b"3")?,
+        set(alloc, b"c", b"2")?,
     ];
-    assert!(rt; add(alloc, &mut disk, &records).is_ok());
-    match map_of(alloc, &mut disk) {
-        Ok(table) => {
-            assert_eq!(rt; table.len(), 1);
-            let kept = table.get(&Bin::of(alloc, b"b")?).is_some();
-            assert!(rt; kept);
-        }
-        Err(fault) => assert_eq!(rt; fault, LogFault::NoMemory),
+    add(alloc, disk, &records)
+}
+
+/// The map at a count, and the keys behind it.
+fn folded<D: Disk>(alloc: Global, disk: &mut D, count: u64) -> Result<(Table, Vec<Bin>), LogFault>
+    ensures limits { IfOk result (λ r. AreWithinLimits r.0) }
+    ensures short { IfOk result (λ r. AllByRecursion (λ key. length key ≤ 1024) r.1.items) }
+{
+    let mut log = Changelog::open_changelog(alloc, disk, 1)?;
+    if log.len() < count {
+        return Err(LogFault::Limit);
     }
+    log.fold(alloc, disk, count)
+}
+
+/// Takes what stands behind a count back, and answers the records that were written for that.
+fn take_back<D: Disk>(alloc: Global, disk: &mut D, count: u64) -> Result<Vec<Record>, LogFault> {
+    let (table, touched) = folded(alloc, disk, count)?;
+    let records = revert(alloc, &table, touched.as_slice())?;
+    add(alloc, disk, records.as_slice())?;
+    Ok(records)
+}
+
+/// How many records and bytes the log has.
+fn lengths<D: Disk>(alloc: Global, disk: &mut D) -> Result<(u64, u64), LogFault> {
+    let log = Changelog::open_changelog(alloc, disk, 1)?;
+    let size = log.size();
+    let count = if log.is_empty() {
+        0
+    } else {
+        log.into_log().len()
+    };
+    Ok((count, size))
+}
+
+fn is_text(found: Option<&Bin>, want: Option<&str>) -> bool {
+    match (found, want) {
+        (Some(bin), Some(text)) => bin.bytes() == text.as_bytes(),
+        (None, None) => true,
+        _ => false,
+    }
+}
+
+/// Whether the table has just these pairs.
+fn has(alloc: Global, table: &Table, want: &[(&str, &str)]) -> Result<bool, NoMemory> {
+    for (key, value) in want {
+        let key = Bin::of(alloc, key.as_bytes())?;
+        if !is_text(table.get(&key), Some(*value)) {
+            return Ok(false);
+        }
+    }
+    Ok(table.len() == want.len() as u64)
+}
+
+fn are_keys(keys: &[Bin], want: &[&str]) -> bool {
+    keys.len() == want.len()
+        && keys
+            .iter()
+            .zip(want)
+            .all(|(key, want)| is_text(Some(key), Some(*want)))
+}
+
+/// Whether the log folds at the count to this map, with these keys behind it.
+fn folds_to<D: Disk>(
+    alloc: Global,
+    disk: &mut D,
+    count: u64,
+    map: &[(&str, &str)],
+    keys: &[&str],
+) -> Result<bool, LogFault> {
+    let (table, touched) = folded(alloc, disk, count)?;
+    Ok(has(alloc, &table, map)? && are_keys(touched.as_slice(), keys))
+}
+
+fn disk(alloc: Global) -> Result<MemDisk, NoMemory> {
+    MemDisk::new(alloc, DiskName::Task(0), 2, 400, 100, Vec::new(alloc), None)
+}
+
+#[test]
+fn a_log_of_two_frames_folds_at_each_count(rt: HostRuntime) -> Result<(), Fail> {
+    let alloc = rt.alloc();
+    let mut disk = disk(alloc)?;
+    assert_eq!(rt; lengths(alloc, &mut disk)?, (0, 1));
+    add_five(alloc, &mut disk)?;
+    assert_eq!(rt; lengths(alloc, &mut disk)?, (5, 68));
+    for (count, map, keys) in [
+        (0, [].as_slice(), ["a", "b", "c"].as_slice()),
+        (1, [("a", "1")].as_slice(), ["a", "b", "c"].as_slice()),
+        (
+            2,
+            [("a", "1"), ("b", "1")].as_slice(),
+            ["a", "b", "c"].as_slice(),
+        ),
+        (3, [("b", "1")].as_slice(), ["b", "c"].as_slice()),
+        (4, [("b", "3")].as_slice(), ["c"].as_slice()),
+        (5, [("b", "3"), ("c", "2")].as_slice(), [].as_slice()),
+    ] {
+        assert!(rt;
+            folds_to(alloc, &mut disk, count, map, keys)?,
+            "at count {count}"
+        );
+    }
+    Ok(())
+}
+
+#[test]
+fn a_tail_that_is_taken_back_leaves_the_map_before_it(rt: HostRuntime) -> Result<(), Fail> {
+    let alloc = rt.alloc();
+    let mut disk = disk(alloc)?;
+    add_five(alloc, &mut disk)?;
+    let records = take_back(alloc, &mut disk, 2)?;
+    let want = [("a", Some("1")), ("b", Some("1")), ("c", None)];
+    assert_eq!(rt; records.len(), want.len());
+    for (record, (key, value)) in records.iter().zip(want) {
+        assert!(rt; is_text(Some(&record.key), Some(key)), "the key {key}");
+        assert!(rt; is_text(record.value.as_ref(), value), "the value of {key}");
+    }
+    assert!(rt; folds_to(alloc, &mut disk, 8, &[("a", "1"), ("b", "1")], &[])?);
+    Ok(())
+}
+
+#[test]
+fn two_frames_are_written_under_one_pair_of_syncs(rt: HostRuntime) -> Result<(), Fail> {
+    let alloc = rt.alloc();
+    let mut disk = disk(alloc)?;
+    // Two writes of frames, the gate between them, a sync, the gate before them, and a sync.
+    assert_eq!(rt; add_five(alloc, &mut disk)?, 6);
     Ok(())
 }
