@@ -1,0 +1,3 @@
+pub mod Outputs
+pub mod Queues
+pub use Rattle.samza_model.specs.Content.{sent_at}
