@@ -1,0 +1,12 @@
+pub mod Cutting
+pub mod Exact
+pub mod Growing
+mod Logs
+mod Openings
+pub mod Others
+pub mod Outcomes
+mod Places
+mod SoFar
+pub mod Tails
+mod Taking
+mod Whole

@@ -1,0 +1,5 @@
+pub mod Crashes
+pub mod Growth
+pub mod Naming
+pub mod Refused
+pub mod Standing

@@ -1,0 +1,19 @@
+//! A task's restart from its files: the last checkpoint, each store's content at it, and changelogs whose last records, which
+//! no checkpoint counts, are taken back.
+#![tactic(auto)]
+
+mod faults;
+mod laws;
+mod lists;
+mod naming;
+mod opening;
+mod restoring;
+mod trimming;
+
+pub use faults::OpenFault;
+pub use laws::restores_to_one;
+pub use naming::topic_name;
+pub use restoring::{Restored, restore};
+
+#[cfg(test)]
+mod tests;
