@@ -1,5 +1,5 @@
 -- The logs before some place have been appended to, and those from it on are as they were.
-use Rattle.std.proofs.Common.{ℕ, ◌≡◌, ◌≢◌, ◌≤◌, ◌<◌, ◌+◌, List, [], ◌++◌, length, get_or, All, false, sym, ◌∙◌, ap, subst, arith, ⊎_elim}
+use Rattle.std.proofs.Common.{ℕ, ◌≡◌, ◌≢◌, ◌≤◌, ◌<◌, ◌+◌, List, [], ◌++◌, length, get_or, All, false, sym, ◌∙◌, subst, arith, ⊎_elim}
 use Rattle.std.proofs.lemmas.List.{get_or-set_same, get_or-set_other, length-set}
 use Rattle.std.proofs.lemmas.List.Elements.{All-set}
 use Rattle.std.proofs.lemmas.Bool.{cases_lt}
@@ -7,18 +7,22 @@ use Rattle.std.proofs.Math.ListN.{set}
 use Rattle.samza_model.specs.declared.messages.Record.{Record}
 use Rattle.samza_model.specs.Files.{Image}
 use Rattle.disk_model.specs.Images.{SameElsewhere}
+use Rattle.disk_model.specs.declared.names.DiskName.{DiskName}
 use Rattle.log_frame.specs.Frame.{FrameView, AreFrames}
 use Rattle.topic_log.specs.declared.logs.Log.{Log}
-use Rattle.topic_log.specs.Opened.{file_of, is_broken, size_of, IsOpen}
-use Rattle.topic_log.specs.Steps.{closed_frames}
+use Rattle.topic_log.specs.Opened.{file_of, is_broken, IsOpen}
 use Rattle.task_unit.specs.Appending.{AreOpen, IsOutside}
-use Rattle.task_unit.specs.Standing.{IsOpenAt, SameOutside}
+use Rattle.restore_trim.specs.Standing.{IsOpenAt, SameOutside}
+
+-- the count of faults and the name
+pub record Goes {D : Type 0} (faults : D → ℕ) (name : D → DiskName) (old new : D) : Type 0 where
+  pub later : faults old ≤ faults new
+  pub named : name new ≡ name old
 
 -- the logs below i have their frames more, the others are as they were, and so are the logs of other files, and these files
 pub record AppendedSoFar {D : Type 0} (tells : Type 0) (reads : D → Image) (images : D → Image → Type 0) (old cur : D) (logs₀ logs : List Log) (frames : List (List FrameView)) (i : ℕ) : Type 0 where
   pub as_many : length logs ≡ length logs₀
   pub sound : All (λ (l : Log). is_broken l ≡ false) logs
-  pub grown : (k : ℕ) (d : Log) → k < i → k < length logs₀ → size_of (get_or logs k d) ≡ size_of (get_or logs₀ k d) + length (closed_frames (get_or frames k []))
   pub same : (k : ℕ) (d : Log) → i ≤ k → get_or logs k d ≡ get_or logs₀ k d
   pub done : tells → (first : ℕ) → AreOpen (reads old) (images old) first logs₀ → (k : ℕ) (d : Log) (before lists : List (List Record)) → k < i → k < length logs₀
       → IsOpenAt (reads old) (images old) (first + k) (get_or logs₀ k d) before → AreFrames (get_or frames k []) lists
@@ -53,7 +57,6 @@ module _ {D : Type 0} (tells : Type 0) (reads : D → Image) (images : D → Ima
       (o.0, (open_at told are.0 are.1 log o.0 o.1).is_open)
 
   module _ (new : D) (log' : Log) (file : file_of log' ≡ file_of log) (sound : is_broken log' ≡ false)
-      (size : size_of log' ≡ size_of log + length (closed_frames (get_or frames i [])))
       (appended : tells → (before lists : List (List Record)) → IsOpen (reads mid) (images mid) log before → AreFrames (get_or frames i []) lists → IsOpen (reads new) (images new) log' (before ++ lists))
       (stays : tells → (l : Log) (had : List (List Record)) → file_of l ≢ file_of log → IsOpen (reads mid) (images mid) l had → IsOpen (reads new) (images new) l had)
       (same : tells → SameElsewhere (file_of log) (reads mid) (reads new)) where
@@ -71,13 +74,6 @@ module _ {D : Type 0} (tells : Type 0) (reads : D → Image) (images : D → Ima
     appended_step = record {
       as_many = length-set logs i log' ∙ h.as_many;
       sound = All-set (λ (l : Log). is_broken l ≡ false) logs i log' sound h.sound;
-      grown = λ k d below within. ⊎_elim
-          (λ (l : k < i). ap size_of (get_or-set_other logs i k log' d (λ e. absurd (omega (arith, e)))) ∙ h.grown k d l within)
-          (λ (ge : i ≤ k).
-          let e : i ≡ k = omega arith in
-          subst (λ (n : ℕ). size_of (get_or (set logs i log') n d) ≡ size_of (get_or logs₀ n d) + length (closed_frames (get_or frames n []))) e
-          (ap size_of (get_or-set_same logs i log' d lt) ∙ size ∙ ap (λ (l : Log). size_of l + length (closed_frames (get_or frames i []))) (sym (was d))))
-          (cases_lt k i);
       same = λ k d le. get_or-set_other logs i k log' d (λ e. absurd (omega (arith, e))) ∙ h.same k d (omega arith);
       done = λ told first are k d before lists below within o these. ⊎_elim
           (λ (l : k < i).

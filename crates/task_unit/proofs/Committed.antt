@@ -1,5 +1,5 @@
 -- What the logs hold once a commit was written to them.
-use Rattle.std.proofs.Common.{ℕ, ◌≡◌, ◌<◌, ◌+◌, List, [], ◌∷◌, ◌++◌, length, get_or, Option, Some, None, sym, ◌∙◌, ap, subst, refl, inr}
+use Rattle.std.proofs.Common.{ℕ, ◌≡◌, ◌<◌, ◌+◌, List, [], ◌∷◌, ◌++◌, length, get_or, Option, Some, None, sym, ◌∙◌, ap, subst, refl, arith}
 use Rattle.std.proofs.lemmas.List.{length_push}
 use Rattle.std.specs.FinMap as fin
 use Rattle.samza_model.specs.declared.messages.Record.{Record}
@@ -8,13 +8,12 @@ use Rattle.samza_model.specs.declared.setups.Setup.{Setup}
 use Rattle.samza_model.specs.Checkpoint.{Spells}
 use Rattle.samza_model.specs.Content.{Content, foldrec, store_at, nothing_stored}
 use Rattle.samza_model.specs.Files.{Image, changelog_file, output_file}
-use Rattle.samza_model.specs.Logs.{joined, HasFrames, HasLog, ReadsAs}
+use Rattle.samza_model.specs.Logs.{joined, HasLog}
 use Rattle.samza_model.specs.Restored.{HasMark, IsNamed, id_of, count_at}
 use Rattle.kv_store.proofs.Updates.{replayed-append}
 use Rattle.log_frame.specs.Frame.{IsFrame}
 use Rattle.topic_log.specs.declared.logs.Log.{Log}
 use Rattle.topic_log.specs.Opened.{count_of}
-use Rattle.topic_log.proofs.Logged.{open_reads}
 use Rattle.topic_log.proofs.Spelling.{joined-append}
 use Rattle.task_unit.specs.declared.writing.Logs.{Logs}
 use Rattle.task_unit.specs.declared.writing.Plan.{Plan}
@@ -22,15 +21,13 @@ use Rattle.task_unit.specs.Acting.{IsSized}
 use Rattle.task_unit.specs.Appending.{AreOpen}
 use Rattle.task_unit.specs.Held.{Held, tracked_at, contents_of}
 use Rattle.task_unit.specs.Planned.{PlansStores, PlansSends}
-use Rattle.task_unit.specs.Standing.{IsOpenAt}
+use Rattle.restore_trim.specs.Standing.{IsOpenAt}
+use Rattle.restore_trim.proofs.Growing.{open_has as open_frames}
 use Rattle.task_unit.specs.Units.{MarkStands, OnDisk}
 use Rattle.task_unit.specs.Written.{Follows, IsRoomFor, StandOpen}
 use Rattle.task_unit.proofs.Made.{content_at}
 
 -- the records of a log that is open are those of its file
-pub open_frames : (reads : Image) (images : Image → Type 0) (file : ℕ) (log : Log) (frames : List (List Record)) → IsOpenAt reads images file log frames → HasFrames (reads file) frames
-open_frames reads images file log frames o = inr (subst (λ f. ReadsAs (reads f) frames) o.file_is (open_reads reads images log frames o.is_open))
-
 pub open_has : (reads : Image) (images : Image → Type 0) (file : ℕ) (log : Log) (frames : List (List Record)) → IsOpenAt reads images file log frames → HasLog (reads file) (joined frames)
 open_has reads images file log frames o = record { frames = frames; has = open_frames reads images file log frames o; records_are = refl }
 
@@ -100,7 +97,7 @@ module _ (s : Setup) (reads reads' : Image) (images images' : Image → Type 0) 
         record {
           frames = m.frames;
           is_open = m.is_open;
-          count_is = m.count_is;
+          enough = omega (arith, m.count_is);
           agrees = λ key clean. ap (λ (c : Content). fin.get c key) (m.content_is ∙ now);
         };
     outputs = outputs_made;

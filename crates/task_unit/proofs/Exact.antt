@@ -1,60 +1,21 @@
--- What a task's files restore to is one, and where a task can be opened there is no cause not to open it.
-use Rattle.std.proofs.Common.{ℕ, ◌≡◌, ◌≢◌, ◌<◌, List, [], ◌∷◌, ◌++◌, length, take, Option, Some, None, inl, inr, if◌then◌else◌, refl, sym, subst, ap, ◌∙◌, arith, length-append}
-use Rattle.std.proofs.lemmas.List.{ext_get_or, same_from_push}
+-- Where a task can be opened there is no cause not to open it.
+use Rattle.std.proofs.Common.{ℕ, ◌≡◌, ◌≢◌, List, [], ◌∷◌, length, Option, Some, None, inl, inr, if◌then◌else◌, refl, sym, subst, ap, ◌∙◌, arith}
 use Rattle.samza_model.specs.declared.messages.Record.{Record}
 use Rattle.samza_model.specs.declared.setups.Setup.{Setup}
 use Rattle.samza_model.specs.declared.checkpoints.Checkpoint.{Checkpoint}
-use Rattle.samza_model.specs.Checkpoint.{Spells}
-use Rattle.samza_model.specs.Content.{Content, nothing_stored, foldrec, store_at}
 use Rattle.samza_model.specs.Files.{Image, checkpoint_file, changelog_file, output_file}
 use Rattle.samza_model.specs.Logs.{joined, HasFrames, HasLog}
 use Rattle.samza_model.specs.Partition.{Partition}
-use Rattle.samza_model.specs.Restored.{count_at, next_at, start_of, fallback_start, EndsWith, HasMark, HoldsContent, IsMarked, IsNamed, Restores}
+use Rattle.samza_model.specs.Restored.{count_at, next_at, start_of, fallback_start, EndsWith, HasMark, IsMarked, IsNamed}
 use Rattle.topic_log.proofs.Spelling.{frames_unique, log_unique}
-use Rattle.checkpoint_log.proofs.Again.{spells_one}
+use Rattle.restore_trim.proofs.Exact.{ends_one, none_ends, marked_one}
 use Rattle.checkpoint_log.specs.Ends.{IsBadEnd}
-use Rattle.task_unit.specs.declared.faults.OpenFault.{OpenFault}
-use Rattle.task_unit.specs.declared.faults.OpenFault.TheVariants.{Device, Damaged, Shape, Ahead, Tail, Limit, NoMemory}
+use Rattle.restore_trim.specs.declared.faults.OpenFault.{OpenFault}
+use Rattle.restore_trim.specs.declared.faults.OpenFault.TheVariants.{Device, Damaged, Shape, Ahead, Limit, NoMemory}
+use Rattle.restore_trim.specs.Refused.{FilesHold, HasChanges, OutputsHold, OutputsRefused, StoreOpens, StoresOpen, StoresRefused, WhyNoFile, WhyNoMark, WhyNoStore, WhyRefused}
+use Rattle.task_unit.specs.Inputs.{WhyNoInput}
 use Rattle.task_unit.specs.Opens.{Opens}
-use Rattle.task_unit.specs.Refused.{CountsHold, FilesHold, HasChanges, OutputsHold, OutputsRefused, StoresRefused, WhyNoFile, WhyNoInput, WhyNoMark, WhyNoStore, WhyRefused}
 use Rattle.task_unit.specs.Units.{IsPastEnd, WhyNotOpened, input_of}
-
--- frames end with one checkpoint
-ends_one : (frames : List (List Record)) (a b : Checkpoint) → EndsWith frames a → EndsWith frames b → a ≡ b
-ends_one frames a b p q =
-    let frame : p.last ∷ [] ≡ q.last ∷ [] = (same_from_push p.before q.before (p.last ∷ []) (q.last ∷ []) (sym p.split ∙ q.split)).1 in
-    let same : p.last ≡ q.last = cc frame in
-    spells_one a b p.last p.spells (subst (λ (r : Record). Spells b r) (sym same) q.spells)
-
-none_ends : (frames before : List (List Record)) (last : List Record) → frames ≡ [] → frames ≡ before ++ last ∷ [] → ⊥
-none_ends frames before last none split = absurd (omega (arith, ap length none, ap length split, length-append before (last ∷ [])))
-
-mark_one : (s : Setup) (frames : List (List Record)) (m m' : Option Checkpoint) → HasMark s frames m → HasMark s frames m' → m ≡ m'
-mark_one s frames None None p q = refl
-mark_one s frames None (Some k) p q = absurd (none_ends frames q.0.before (q.0.last ∷ []) p q.0.split)
-mark_one s frames (Some k) None p q = absurd (none_ends frames p.0.before (p.0.last ∷ []) q p.0.split)
-mark_one s frames (Some k) (Some k') p q = ap (λ (x : Checkpoint). Some x) (ends_one frames k k' p.0 q.0)
-
--- an image has one checkpoint
-pub marked_one : (s : Setup) (image : Image) (m m' : Option Checkpoint) → IsMarked s image m → IsMarked s image m' → m ≡ m'
-marked_one s image m m' p q =
-    let same : p.frames ≡ q.frames = frames_unique (image checkpoint_file) p.frames q.frames p.has q.has in
-    mark_one s q.frames m m' (subst (λ (fs : List (List Record)). HasMark s fs m) same p.mark_is) q.mark_is
-
-content_one : (bytes : List ℕ) (n : ℕ) (c c' : Content) → HoldsContent bytes n c → HoldsContent bytes n c' → c ≡ c'
-content_one bytes n c c' p q = p.content_is ∙ ap (λ (rs : List Record). foldrec (take n rs)) (log_unique bytes p.changes q.changes p.has q.has) ∙ sym q.content_is
-
--- and restores to one checkpoint and to one content of each store
-pub restores_one : (s : Setup) (image : Image) (m m' : Option Checkpoint) (c c' : List Content) → Restores s image m c → Restores s image m' c' → (m ≡ m') × (c ≡ c')
-restores_one s image m m' c c' p q =
-    let same : m ≡ m' = marked_one s image m m' p.marked q.marked in (
-      same,
-      ext_get_or nothing_stored c c' (p.as_many ∙ sym q.as_many) (λ i lt.
-          let within : i < length s.stores = omega (arith, lt, p.as_many) in
-          content_one (image (changelog_file i)) (count_at m' i) (store_at c i) (store_at c' i)
-          (subst (λ (k : Option Checkpoint). HoldsContent (image (changelog_file i)) (count_at k i) (store_at c i)) same (p.each_store i within))
-          (q.each_store i within)),
-    )
 
 not_bad : (s : Setup) (frames : List (List Record)) (at : ℕ) (m : Option Checkpoint) → HasMark s frames m → IsBadEnd frames at → ⊥
 not_bad s frames at None none bad = none_ends frames bad.before bad.last none bad.split
@@ -83,23 +44,20 @@ module _ (s : Setup) (image : Image) (m : Option Checkpoint) (marked : IsMarked 
   has_mark (Damaged (Some i) file at) device memory why = why
   has_mark Shape device memory why = not_other s why.frames m why.mark (marked_at why.frames why.has) why.ends why.other
   has_mark (Ahead i store wanted held) device memory why = why
-  has_mark (Tail store wanted held) device memory why = why
   has_mark Limit device memory why = why
   has_mark NoMemory device memory why = memory refl
 
-pub has_store : (image : Image) (store count : ℕ) (e : OpenFault) → e ≢ Device → e ≢ NoMemory → HasChanges image store count → WhyNoStore image store count e → ⊥
-has_store image store count Device device memory counted why = device refl
-has_store image store count (Damaged None file at) device memory counted why = why.1.1 counted.frames counted.has
-has_store image store count (Damaged (Some i) file at) device memory counted why = why
-has_store image store count Shape device memory counted why = why
-has_store image store count (Ahead None None wanted held) device memory counted why = why
-has_store image store count (Ahead None (Some n) wanted held) device memory counted why =
-    absurd (omega (arith, changes_one image store held count why.2 counted, why.1, why.3))
-has_store image store count (Ahead (Some i) n wanted held) device memory counted why = why
-has_store image store count (Tail n wanted held) device memory counted why =
-    absurd (omega (arith, changes_one image store held count why.2 counted, why.1, why.3))
-has_store image store count Limit device memory counted why = why
-has_store image store count NoMemory device memory counted why = memory refl
+pub has_store : (image : Image) (store count : ℕ) (e : OpenFault) → e ≢ Device → e ≢ NoMemory → StoreOpens image store count → WhyNoStore image store count e → ⊥
+has_store image store count Device device memory opens why = device refl
+has_store image store count (Damaged None file at) device memory opens why = why.1.1 opens.has.frames opens.has.has
+has_store image store count (Damaged (Some i) file at) device memory opens why = why
+has_store image store count Shape device memory opens why = why
+has_store image store count (Ahead None None wanted held) device memory opens why = why
+has_store image store count (Ahead None (Some n) wanted held) device memory opens why =
+    absurd (omega (arith, changes_one image store held opens.held why.2 opens.has, why.1, why.3, opens.enough))
+has_store image store count (Ahead (Some i) n wanted held) device memory opens why = why
+has_store image store count Limit device memory opens why = opens.room why
+has_store image store count NoMemory device memory opens why = memory refl
 
 pub has_file : (image : Image) (file : ℕ) (frames : List (List Record)) (e : OpenFault) → e ≢ Device → e ≢ NoMemory → HasFrames (image file) frames → WhyNoFile image file e → ⊥
 has_file image file frames Device device memory has why = device refl
@@ -107,16 +65,15 @@ has_file image file frames (Damaged None f at) device memory has why = why.1.1 f
 has_file image file frames (Damaged (Some i) f at) device memory has why = why
 has_file image file frames Shape device memory has why = why
 has_file image file frames (Ahead i n wanted held) device memory has why = why
-has_file image file frames (Tail n wanted held) device memory has why = why
 has_file image file frames Limit device memory has why = why
 has_file image file frames NoMemory device memory has why = memory refl
 
 module _ (s : Setup) (image : Image) (m : Option Checkpoint) (e : OpenFault) (device : e ≢ Device) (memory : e ≢ NoMemory) where
-  pub has_stores : IsMarked s image m → CountsHold image m (length s.stores) → StoresRefused s image e → ⊥
-  has_stores marked counts why =
+  pub has_stores : IsMarked s image m → StoresOpen image m (length s.stores) → StoresRefused s image e → ⊥
+  has_stores marked stores why =
       let i = why.why.store in
       let same : why.mark ≡ m = marked_one s image why.mark m why.marked marked in
-      has_store image i (count_at m i) e device memory (counts i why.why.within)
+      has_store image i (count_at m i) e device memory (stores i why.why.within)
       (subst (λ (k : Option Checkpoint). WhyNoStore image i (count_at k i) e) same why.why.why)
 
   has_outputs : OutputsHold image (length s.outputs) → OutputsRefused s image e → ⊥
@@ -128,7 +85,7 @@ module _ (s : Setup) (image : Image) (m : Option Checkpoint) (e : OpenFault) (de
   -- files that hold have no cause not to restore
   pub not_refused : FilesHold s image m → WhyRefused s image e → ⊥
   not_refused hold (inl why) = has_mark s image m hold.marked e device memory why
-  not_refused hold (inr (inl why)) = has_stores hold.marked hold.counts why
+  not_refused hold (inr (inl why)) = has_stores hold.marked hold.stores why
   not_refused hold (inr (inr why)) = has_outputs hold.outputs why
 
 pub has_input : (told : Type 0) (bytes : List ℕ) (partition : ℕ) (records : List Record) (e : OpenFault) → told → e ≢ Device → e ≢ NoMemory → HasLog bytes records → WhyNoInput told bytes partition e → ⊥
@@ -136,7 +93,6 @@ has_input told bytes partition records Device tells device memory has why = devi
 has_input told bytes partition records (Damaged i file at) tells device memory has why = (why.2 tells).1 has.frames has.has
 has_input told bytes partition records Shape tells device memory has why = why
 has_input told bytes partition records (Ahead i n wanted held) tells device memory has why = why
-has_input told bytes partition records (Tail n wanted held) tells device memory has why = why
 has_input told bytes partition records Limit tells device memory has why = why
 has_input told bytes partition records NoMemory tells device memory has why = memory refl
 
@@ -154,7 +110,7 @@ not_past tells told s image bytes e is_told input_told opens past =
 opens_hold : (s : Setup) (image : Image) (bytes : List ℕ) (opens : Opens s image bytes) → FilesHold s image opens.mark
 opens_hold s image bytes opens = record {
   marked = opens.restored.marked;
-  counts = opens.counts;
+  stores = opens.opens;
   outputs = λ j lt. let log = (opens.restored.each_output j lt).1 in (log.frames, log.has);
 }
 

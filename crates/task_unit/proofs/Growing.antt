@@ -1,5 +1,5 @@
 -- The logs' room on a disk that tells its bytes, and what a commit appends.
-use Rattle.std.proofs.Common.{ℕ, ◌≡◌, ◌<◌, List, [], ◌∷◌, ◌++◌, length, get_or, Option, sym, ◌∙◌, ap, subst, refl, arith, inl, inr, ⊎_elim, length-append}
+use Rattle.std.proofs.Common.{ℕ, ◌≡◌, ◌<◌, List, [], ◌∷◌, length, get_or, Option, sym, ◌∙◌, subst, arith, inl, inr, ⊎_elim}
 use Rattle.std.proofs.lemmas.List.{get_or-map}
 use Rattle.samza_model.specs.declared.messages.Record.{Record}
 use Rattle.samza_model.specs.declared.checkpoints.Checkpoint.{Checkpoint}
@@ -7,52 +7,20 @@ use Rattle.samza_model.specs.declared.setups.Setup.{Setup}
 use Rattle.samza_model.specs.Checkpoint.{Spells}
 use Rattle.samza_model.specs.Content.{nothing_stored, sent_at}
 use Rattle.samza_model.specs.Files.{Image, checkpoint_file, changelog_file, output_file}
-use Rattle.samza_model.specs.Frames.{frame_bytes}
-use Rattle.samza_model.specs.Logs.{spelled, HasFrames}
 use Rattle.samza_model.specs.Restored.{IsNamed}
 use Rattle.kv_store.specs.Tracked.{unlogged_records, no_keys}
 use Rattle.log_frame.specs.Cuts.{IsCut}
-use Rattle.log_frame.specs.Frame.{FrameView, IsFrame, AreFrames}
-use Rattle.topic_log.specs.declared.logs.Log.{Log}
-use Rattle.topic_log.specs.Steps.{closed_frames}
-use Rattle.topic_log.proofs.Spelling.{frames_unique}
+use Rattle.log_frame.specs.Frame.{IsFrame}
 use Rattle.task_unit.specs.declared.writing.Logs.{Logs}
 use Rattle.task_unit.specs.declared.writing.Plan.{Plan}
 use Rattle.task_unit.specs.Acting.{IsSized}
-use Rattle.task_unit.specs.Growth.{Passes, PassesBy, PassesLimit}
+use Rattle.task_unit.specs.Growth.{PassesLimit}
 use Rattle.task_unit.specs.Held.{Held, tracked_at, unlogged_of, unlogged_at}
 use Rattle.task_unit.specs.Planned.{PlansStores, PlansSends, batch_at}
-use Rattle.task_unit.specs.Room.{HasRoom, LacksRoom}
-use Rattle.task_unit.specs.Standing.{IsOpenAt}
 use Rattle.task_unit.specs.Units.{OnDisk}
 use Rattle.task_unit.specs.Written.{IsRoomFor, IsNoRoomFor}
-use Rattle.task_unit.proofs.Committed.{open_frames}
-use Rattle.task_unit.proofs.Cutting.{cut_unique}
+use Rattle.restore_trim.proofs.Growing.{lacks_passes, has_passes, cut_passes}
 use Rattle.task_unit.proofs.MarkSizes.{marks_long}
-
--- each frame's bytes and one gate
-frames_long : (frames : List FrameView) (lists : List (List Record)) → AreFrames frames lists → length (closed_frames frames) ≡ length (spelled lists)
-frames_long [] [] are = refl
-frames_long [] (l ∷ lists) are = absurd are
-frames_long (f ∷ frames) [] are = absurd are
-frames_long (f ∷ frames) (l ∷ lists) are =
-    omega (arith, length-append (f.bytes ++ 0x43 ∷ []) (closed_frames frames), length-append f.bytes (0x43 ∷ []), length-append (0x4F ∷ frame_bytes l) (spelled lists), frames_long frames lists are.1, ap length are.0.bytes_are)
-
-module _ (reads : Image) (images : Image → Type 0) (file : ℕ) (log : Log) (before : List (List Record)) (o : IsOpenAt reads images file log before) where
-  has_before : HasFrames (reads file) before
-  has_before = open_frames reads images file log before o
-
-  pub lacks_passes : (frames : List FrameView) (lists : List (List Record)) → AreFrames frames lists → LacksRoom log frames → Passes (reads file) lists
-  lacks_passes frames lists are lacks = record { had = before; has = has_before; passes = omega (arith, lacks, o.is_open.extent.gate, frames_long frames lists are) }
-
-  pub has_passes : (frames : List FrameView) (lists : List (List Record)) → AreFrames frames lists → HasRoom log frames → Passes (reads file) lists → ⊥
-  has_passes frames lists are has by =
-      let had = ap (λ (fs : List (List Record)). length (spelled fs)) (frames_unique (reads file) by.had before by.has has_before) in
-      absurd (omega (arith, has, by.passes, had, o.is_open.extent.gate, frames_long frames lists are))
-
-  pub cut_passes : (most : ℕ) (records : List Record) (frames : List FrameView) (lists : List (List Record)) → IsCut most records lists → AreFrames frames lists → HasRoom log frames → PassesBy (reads file) most records → ⊥
-  cut_passes most records frames lists cut are has by =
-      has_passes frames lists are has (subst (λ (ls : List (List Record)). Passes (reads file) ls) (cut_unique most records by.frames lists by.cut cut) by.passes)
 
 module _ (s : Setup) (reads : Image) (images : Image → Type 0) (logs : Logs) (plan : Plan) (mark : Option Checkpoint) (made : Checkpoint) (h : Held)
     (on : OnDisk reads images s logs mark h)

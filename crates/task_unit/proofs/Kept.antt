@@ -5,7 +5,7 @@ use Rattle.samza_model.specs.Files.{Image, checkpoint_file, changelog_file, outp
 use Rattle.topic_log.specs.declared.logs.Log.{Log}
 use Rattle.topic_log.specs.Opened.{file_of, IsOpen}
 use Rattle.task_unit.specs.Appending.{AreOpen, IsOutside}
-use Rattle.task_unit.specs.Standing.{IsOpenAt}
+use Rattle.restore_trim.specs.Standing.{IsOpenAt}
 
 at_file : (reads reads' : Image) (images images' : Image → Type 0) (f : ℕ) (log : Log) (frames : List (List Record))
     → (IsOpen reads images log frames → IsOpen reads' images' log frames) → IsOpenAt reads images f log frames → IsOpenAt reads' images' f log frames

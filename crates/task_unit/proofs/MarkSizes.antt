@@ -11,7 +11,7 @@ use Rattle.samza_model.specs.Checkpoint.{Spells, input_bytes, store_bytes, name_
 use Rattle.samza_model.specs.Frames.{frame_bytes, body_bytes, record_bytes, text_bytes}
 use Rattle.samza_model.specs.Logs.{spelled}
 use Rattle.samza_model.specs.Restored.{IsNamed, marked_place, setup_place}
-use Rattle.task_unit.specs.Naming.{mark_names}
+use Rattle.restore_trim.specs.Naming.{mark_names}
 
 places_size : List (List ℕ × ℕ) → ℕ
 places_size [] = 0

@@ -9,30 +9,25 @@ use Rattle.disk_model.proofs.Moments.{started, followed, followed_from, weaker}
 use Rattle.log_frame.specs.Frame.{FrameView, AreFrames}
 use Rattle.topic_log.specs.declared.logs.Log.{Log}
 use Rattle.topic_log.specs.Opened.{file_of, IsOpen, Appends}
-use Rattle.topic_log.proofs.Logged.{open_log_has}
 use Rattle.task_unit.specs.Appending.{AreOpen, AreAppended, IsOutside}
 use Rattle.task_unit.specs.Crashes.{HaveFrames, AreFramesOf, AppendsEach, TaskFrames, PlanRecords, StandWith, WriteLeaves}
-use Rattle.task_unit.specs.Standing.{IsOpenAt}
+use Rattle.restore_trim.specs.Standing.{IsOpenAt}
 use Rattle.task_unit.specs.declared.writing.Logs.{Logs}
 use Rattle.task_unit.proofs.Appended.{AppendedSoFar, open_at}
+use Rattle.restore_trim.proofs.Tails.{same_has, has_frames}
 use Rattle.task_unit.proofs.Kept.{below_stays, output_stays, mark_stays}
-use Rattle.task_unit.proofs.SoFar.{item}
 
--- each image has the frames of a log that is open
-pub has_frames : (reads : Image) (images : Image → Type 0) (file : ℕ) (log : Log) (frames : List (List Record)) → IsOpenAt reads images file log frames
-    → (c : Image) → images c → HasFrames (c file) frames
-has_frames reads images file log frames o c now = subst (λ (f : ℕ). HasFrames (c f) frames) o.file_is (open_log_has reads images log frames o.is_open c now)
+-- some item of a list that has one
+item : {A : Type 0} (xs : List A) → 0 < length xs → A
+item [] lt = absurd (omega arith)
+item (x ∷ xs) lt = x
 
--- and so the i-th of logs that are open
+-- each image has the frames of the i-th of logs that are open
 pub have_frames : (reads : Image) (images : Image → Type 0) (first : ℕ) (logs : List Log) (had : ℕ → List (List Record)) → HaveFrames reads images first logs had
     → (i : ℕ) → i < length logs → (c : Image) → images c → HasFrames (c (first + i)) (had i)
 have_frames reads images first logs had open' i lt c now =
     let d = item logs (omega (arith, lt)) in
     has_frames reads images (first + i) (get_or logs i d) (had i) (open' i d lt) c now
-
--- a file that is the same has the same frames
-pub same_has : (file : ℕ) (frames : List (List Record)) (old new : Image) → new file ≡ old file → HasFrames (old file) frames → HasFrames (new file) frames
-same_has file frames old new same has = subst (λ (b : List ℕ). HasFrames b frames) (sym same) has
 
 -- one log more is appended to
 appends_more : (first n i : ℕ) (had more : ℕ → List (List Record)) (a b c : Image) → i < n

@@ -6,16 +6,18 @@ use Rattle.samza_model.specs.declared.messages.Record.{Record}
 use Rattle.samza_model.specs.declared.checkpoints.Checkpoint.{Checkpoint}
 use Rattle.samza_model.specs.declared.setups.Setup.{Setup}
 use Rattle.samza_model.specs.Files.{Image, checkpoint_file, changelog_file, output_file}
-use Rattle.samza_model.specs.Logs.{spelled}
+use Rattle.samza_model.specs.Logs.{joined, spelled}
 use Rattle.samza_model.specs.Restored.{count_at, next_at, EndsWith}
 use Rattle.topic_log.specs.Damage.{IsDamagedAt}
 use Rattle.topic_log.proofs.Damaging.{damage_unique, damaged_once}
 use Rattle.topic_log.proofs.Spelling.{frames_unique, log_unique}
-use Rattle.task_unit.specs.declared.faults.OpenFault.{OpenFault}
-use Rattle.task_unit.specs.declared.faults.OpenFault.TheVariants.{Device, Damaged, Shape, Ahead, Tail, Limit, NoMemory}
-use Rattle.task_unit.specs.Refused.{EndsBadly, HasChanges, HasOtherNames, OutputsRefused, StoresRefused, WhyNoFile, WhyNoInput, WhyNoMark, WhyNoStore, WhyRefused}
+use Rattle.restore_trim.specs.declared.faults.OpenFault.{OpenFault}
+use Rattle.restore_trim.specs.declared.faults.OpenFault.TheVariants.{Device, Damaged, Shape, Ahead, Limit, NoMemory}
+use Rattle.restore_trim.specs.Refused.{EndsBadly, HasChanges, HasOtherNames, OutputsRefused, RevertPasses, StoresRefused, WhyNoFile, WhyNoMark, WhyNoStore, WhyRefused}
+use Rattle.task_unit.specs.Inputs.{WhyNoInput}
 use Rattle.task_unit.specs.Units.{InputRefused, IsPastEnd, WhyNotOpened, input_of}
-use Rattle.task_unit.proofs.Exact.{changes_one, has_file, has_input, has_mark, has_store, has_stores, marked_one, not_refused}
+use Rattle.restore_trim.proofs.Exact.{marked_one}
+use Rattle.task_unit.proofs.Exact.{changes_one, has_file, has_input, has_mark, has_store, has_stores, not_refused}
 
 -- a fault that is one of these two is free of a cause
 record IsOther (e : OpenFault) : Type 0 where
@@ -37,7 +39,6 @@ file_cause image file (Damaged None f at) other why = record { at = at; damaged 
 file_cause image file (Damaged (Some i) f at) other why = absurd why
 file_cause image file Shape other why = absurd why
 file_cause image file (Ahead i n wanted held) other why = absurd why
-file_cause image file (Tail n wanted held) other why = absurd why
 file_cause image file Limit other why = absurd why
 file_cause image file NoMemory other why = absurd (other.memory refl)
 
@@ -58,7 +59,6 @@ mark_cause s image (Damaged None f at) other why =
 mark_cause s image (Damaged (Some i) f at) other why = absurd why
 mark_cause s image Shape other why = others why refl
 mark_cause s image (Ahead i n wanted held) other why = absurd why
-mark_cause s image (Tail n wanted held) other why = absurd why
 mark_cause s image Limit other why = absurd why
 mark_cause s image NoMemory other why = absurd (other.memory refl)
 
@@ -90,7 +90,7 @@ module _ (s : Setup) (image : Image) (e e' : OpenFault) where
 data StoreCause (image : Image) (store count : ℕ) (e : OpenFault) : Type 0 where
   no_log : IsDamage None (changelog_file store) (image (changelog_file store)) e → StoreCause image store count e
   fewer : (held : ℕ) → HasChanges image store held → held < count → e ≡ Ahead None (Some store) count held → StoreCause image store count e
-  more : (held : ℕ) → HasChanges image store held → count < held → e ≡ Tail store count held → StoreCause image store count e
+  full : RevertPasses image store count → e ≡ Limit → StoreCause image store count e
 
 store_cause : (image : Image) (store count : ℕ) (e : OpenFault) → IsOther e → WhyNoStore image store count e → StoreCause image store count e
 store_cause image store count Device other why = absurd (other.device refl)
@@ -101,9 +101,7 @@ store_cause image store count (Ahead None None wanted held) other why = absurd w
 store_cause image store count (Ahead None (Some n) wanted held) other why =
     fewer held why.2 (subst (λ w. held < w) why.1 why.3) (ap (λ k. Ahead None (Some k) wanted held) why.0 ∙ ap (λ w. Ahead None (Some store) w held) why.1)
 store_cause image store count (Ahead (Some i) n wanted held) other why = absurd why
-store_cause image store count (Tail n wanted held) other why =
-    more held why.2 (subst (λ w. w < held) why.1 why.3) (ap (λ k. Tail k wanted held) why.0 ∙ ap (λ w. Tail store w held) why.1)
-store_cause image store count Limit other why = absurd why
+store_cause image store count Limit other why = full why refl
 store_cause image store count NoMemory other why = absurd (other.memory refl)
 
 module _ (image : Image) (store count : ℕ) (e e' : OpenFault) where
@@ -113,16 +111,22 @@ module _ (image : Image) (store count : ℕ) (e e' : OpenFault) where
   log_has' : IsDamage None (changelog_file store) (image (changelog_file store)) e' → (held : ℕ) → HasChanges image store held → ⊥
   log_has' p held has = damaged_once (image (changelog_file store)) p.at has.frames p.damaged has.has
 
+  -- a changelog has not both fewer records than counted and more
+  fewer_or_more : (held : ℕ) → HasChanges image store held → held < count → RevertPasses image store count → ⊥
+  fewer_or_more held has lt by =
+      let more : HasChanges image store (length (joined by.frames)) = record { frames = by.frames; has = by.has; held_is = refl } in
+      absurd (omega (arith, changes_one image store held (length (joined by.frames)) has more, lt, by.more))
+
   one_store : StoreCause image store count e → StoreCause image store count e' → e ≡ e'
   one_store (no_log p) (no_log q) = one_damage None (changelog_file store) (image (changelog_file store)) e e' p q
   one_store (no_log p) (fewer held has lt is) = absurd (log_has p held has)
-  one_store (no_log p) (more held has lt is) = absurd (log_has p held has)
+  one_store (no_log p) (full by is) = absurd (damaged_once (image (changelog_file store)) p.at by.frames p.damaged by.has)
   one_store (fewer held has lt is) (no_log q) = absurd (log_has' q held has)
   one_store (fewer held has lt is) (fewer held' has' lt' is') = is ∙ ap (λ n. Ahead None (Some store) count n) (changes_one image store held held' has has') ∙ sym is'
-  one_store (fewer held has lt is) (more held' has' lt' is') = absurd (omega (arith, changes_one image store held held' has has', lt, lt'))
-  one_store (more held has lt is) (no_log q) = absurd (log_has' q held has)
-  one_store (more held has lt is) (fewer held' has' lt' is') = absurd (omega (arith, changes_one image store held held' has has', lt, lt'))
-  one_store (more held has lt is) (more held' has' lt' is') = is ∙ ap (λ n. Tail store count n) (changes_one image store held held' has has') ∙ sym is'
+  one_store (fewer held has lt is) (full by is') = absurd (fewer_or_more held has lt by)
+  one_store (full by is) (no_log q) = absurd (damaged_once (image (changelog_file store)) q.at by.frames q.damaged by.has)
+  one_store (full by is) (fewer held has lt is') = absurd (fewer_or_more held has lt by)
+  one_store (full by is) (full by' is') = is ∙ sym is'
 
 -- two numbers of which neither is below the other are one
 neither : (a b : ℕ) → (a < b → ⊥) → (b < a → ⊥) → a ≡ b
@@ -168,7 +172,7 @@ module _ (s : Setup) (image : Image) (e e' : OpenFault) (other : IsOther e) wher
   mark_first why (inr q) = has_mark s image q.mark q.marked e other.device other.memory why
 
   stores_first : StoresRefused s image e → OutputsRefused s image e' → ⊥
-  stores_first p q = has_stores s image q.mark e other.device other.memory q.marked q.counts p
+  stores_first p q = has_stores s image q.mark e other.device other.memory q.marked q.stores p
 
 one_refusal : (s : Setup) (image : Image) (e e' : OpenFault) → IsOther e → IsOther e' → WhyRefused s image e → WhyRefused s image e' → e ≡ e'
 one_refusal s image e e' other other' (inl p) (inl q) = one_mark s image e e' (mark_cause s image e other p) (mark_cause s image e' other' q)
@@ -189,7 +193,6 @@ module _ (tells told : Type 0) (shown : tells) (read : told) (s : Setup) (image 
   }
   input_cause Shape other why = absurd why
   input_cause (Ahead i n wanted held) other why = absurd why
-  input_cause (Tail n wanted held) other why = absurd why
   input_cause Limit other why = absurd why
   input_cause NoMemory other why = absurd (other.memory refl)
 

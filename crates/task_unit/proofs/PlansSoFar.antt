@@ -10,7 +10,7 @@ use Rattle.kv_store.specs.Tracked.{Tracked}
 use Rattle.log_frame.specs.Frame.{FrameView}
 use Rattle.topic_log.specs.declared.logs.Log.{Log}
 use Rattle.task_unit.specs.Held.{tracked_at}
-use Rattle.task_unit.specs.Naming.{mark_names, setup_names}
+use Rattle.restore_trim.specs.Naming.{mark_names, setup_names}
 use Rattle.task_unit.specs.Planned.{batch_at, LogsSends, PlansStore}
 
 -- the frames of the first n outputs are made

@@ -22,12 +22,14 @@ use Rattle.task_unit.specs.Acting.{IsSized}
 use Rattle.task_unit.specs.Crashes.{TaskFrames, PlanRecords, StandWith, IsPlanOf, HasPart, HasAll, WriteLeaves}
 use Rattle.task_unit.specs.Held.{Held, tracked_at, state_of}
 use Rattle.task_unit.specs.Planned.{PlansStores, PlansSends}
-use Rattle.task_unit.specs.Standing.{IsOpenAt}
+use Rattle.restore_trim.specs.Standing.{IsOpenAt}
 use Rattle.task_unit.specs.Units.{OnDisk, IsCommitted, IsUncommitted, CommitLeaves}
 use Rattle.task_unit.specs.Written.{Follows, IsRoomFor}
-use Rattle.task_unit.proofs.Committed.{id_was, open_frames, open_has}
+use Rattle.restore_trim.proofs.Growing.{open_has as open_frames}
+use Rattle.restore_trim.proofs.Outcomes.{log_of}
+use Rattle.restore_trim.proofs.Tails.{has_frames}
+use Rattle.task_unit.proofs.Committed.{id_was, open_has}
 use Rattle.task_unit.proofs.Made.{content_at}
-use Rattle.task_unit.proofs.Moments.{has_frames}
 
 pick : {X : Type 0} (P : ℕ → X → Type 0) (d : X) (i n : ℕ) → (i < n → (x : X) × P i x) → (i < n) ⊎ (n ≤ i) → X
 pick P d i n h (inl lt) = (h lt).0
@@ -41,9 +43,6 @@ picked P d i n h lt (inr ge) = absurd (omega arith)
 -- what there is for each number below n there is as a function
 chosen : {X : Type 0} (P : ℕ → X → Type 0) (d : X) (n : ℕ) → ((i : ℕ) → i < n → (x : X) × P i x) → (f : ℕ → X) × ((i : ℕ) → i < n → P i (f i))
 chosen P d n h = ((λ i. pick P d i n (h i) (cases_lt i n)), (λ i lt. picked P d i n (h i) lt (cases_lt i n)))
-
-log_of : (bytes : List ℕ) (frames : List (List Record)) → HasFrames bytes frames → HasLog bytes (joined frames)
-log_of bytes frames has = record { frames = frames; has = has; records_are = refl }
 
 -- a changelog that may be longer makes the same content at the same count
 holds_still : (old new : List ℕ) (count : ℕ) (content : Content) (had more : List (List Record)) → HasFrames old had → HoldsContent old count content

@@ -6,6 +6,7 @@ use Rattle.samza_model.specs.declared.messages.Record.{Record}
 use Rattle.kv_store.specs.Tracked.{Tracked, Reversal, IsDirty, undone}
 use Rattle.task_unit.specs.declared.acting.Undone.{Undone}
 use Rattle.task_unit.specs.declared.acting.Undone.TheVariants.{Changed, Sent}
+use Rattle.task_unit.specs.Acting.{with_sent}
 use Rattle.task_unit.specs.Held.{Held, tracked_at, taken_back, MayTake, LeadsTo}
 use Rattle.samza_model.specs.Content.{sent_at, nothing_stored}
 use Rattle.kv_store.specs.Tracked.{no_keys}
@@ -21,31 +22,33 @@ pub one_more : (h mid first : Held) (us vs : List Undone) (u : Undone) → us �
 one_more h mid first us vs u is may back leads =
     subst (λ l. LeadsTo h l first) (sym (ap reverse is ∙ reverse_push vs u)) (may, subst (λ m. LeadsTo m (reverse vs) first) (sym back) leads)
 
-pub store_may : (stores : List Tracked) (unsent : List (List Record)) (i : ℕ) (t : Tracked) (u : Reversal) → i < length stores → IsDirty t u.key
-    → MayTake (record { stores = set stores i t; unsent = unsent }) (Changed i u)
-store_may stores unsent i t u lt dirty =
-    (subst (λ n. i < n) (sym (length-set stores i t)) lt, subst (λ (x : Tracked). IsDirty x u.key) (sym (get_or-set_same stores i t (record { content = nothing_stored; dirty = no_keys }) lt)) dirty)
+-- another table in a store's place
+abbrev pub with_table : Held → ℕ → Tracked → Held
+with_table h i t = record { stores = set h.stores i t; unsent = h.unsent; cleared = h.cleared }
 
-pub store_back : (stores : List Tracked) (unsent : List (List Record)) (i : ℕ) (t : Tracked) (u : Reversal) → i < length stores → undone t u ≡ tracked_at stores i
-    → taken_back (record { stores = set stores i t; unsent = unsent }) (Changed i u) ≡ record { stores = stores; unsent = unsent }
-store_back stores unsent i t u lt is =
+pub store_may : (h : Held) (i : ℕ) (t : Tracked) (u : Reversal) → i < length h.stores → IsDirty t u.key → MayTake (with_table h i t) (Changed i u)
+store_may h i t u lt dirty =
+    (subst (λ n. i < n) (sym (length-set h.stores i t)) lt, subst (λ (x : Tracked). IsDirty x u.key) (sym (get_or-set_same h.stores i t (record { content = nothing_stored; dirty = no_keys }) lt)) dirty)
+
+pub store_back : (h : Held) (i : ℕ) (t : Tracked) (u : Reversal) → i < length h.stores → undone t u ≡ tracked_at h.stores i → taken_back (with_table h i t) (Changed i u) ≡ h
+store_back h i t u lt is =
+    let stores = h.stores in
     let d : Tracked = record { content = nothing_stored; dirty = no_keys } in
     let at : get_or (set stores i t) i d ≡ t = get_or-set_same stores i t d lt in
     let whole : set (set stores i t) i (undone (get_or (set stores i t) i d) u) ≡ stores =
     set-set stores i t (undone (get_or (set stores i t) i d) u) ∙ ap (λ (x : Tracked). set stores i x) (ap (λ (x : Tracked). undone x u) at ∙ is) ∙ set-get_or stores i d in
-    λ k. record { stores = whole k; unsent = unsent }
+    λ k. record { stores = whole k; unsent = h.unsent; cleared = h.cleared }
 
-pub sent_may : (stores : List Tracked) (unsent : List (List Record)) (j : ℕ) (l : List Record) → j < length unsent
-    → MayTake (record { stores = stores; unsent = set unsent j l }) (Sent j)
-sent_may stores unsent j l lt = subst (λ n. j < n) (sym (length-set unsent j l)) lt
+pub sent_may : (h : Held) (j : ℕ) (r : Record) → j < length h.unsent → MayTake (with_sent h j r) (Sent j)
+sent_may h j r lt = subst (λ n. j < n) (sym (length-set h.unsent j (sent_at h.unsent j ++ r ∷ []))) lt
 
-pub sent_back : (stores : List Tracked) (unsent : List (List Record)) (j : ℕ) (r : Record) → j < length unsent
-    → taken_back (record { stores = stores; unsent = set unsent j (sent_at unsent j ++ r ∷ []) }) (Sent j) ≡ record { stores = stores; unsent = unsent }
-sent_back stores unsent j r lt =
+pub sent_back : (h : Held) (j : ℕ) (r : Record) → j < length h.unsent → taken_back (with_sent h j r) (Sent j) ≡ h
+sent_back h j r lt =
+    let unsent = h.unsent in
     let l = sent_at unsent j in
     let new : List (List Record) = set unsent j (l ++ r ∷ []) in
     let at : sent_at new j ≡ l ++ r ∷ [] = get_or-set_same unsent j (l ++ r ∷ []) [] lt in
     let cut : take (length (l ++ r ∷ []) - 1) (l ++ r ∷ []) ≡ l = take_at l (r ∷ []) (length (l ++ r ∷ []) - 1) (omega (arith, length_push l r)) in
     let whole : set new j (take (length (sent_at new j) - 1) (sent_at new j)) ≡ unsent =
     set-set unsent j (l ++ r ∷ []) (take (length (sent_at new j) - 1) (sent_at new j)) ∙ ap (λ (x : List Record). set unsent j x) (ap (λ (x : List Record). take (length x - 1) x) at ∙ cut) ∙ set-get_or unsent j [] in
-    λ k. record { stores = stores; unsent = whole k }
+    λ k. record { stores = h.stores; unsent = whole k; cleared = h.cleared }

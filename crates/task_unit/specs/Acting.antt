@@ -16,7 +16,7 @@ use Rattle.task_unit.specs.declared.acting.Undone.{Undone}
 use Rattle.task_unit.specs.Held.{Held, tracked_at, LeadsTo}
 
 abbrev pub held : Holdings → Held
-held h = record { stores = h.stores.items; unsent = h.unsent.items }
+held h = record { stores = h.stores.items; unsent = h.outputs.unsent; cleared = h.outputs.cleared }
 
 -- what takes the acts of a message back, the oldest first
 abbrev pub undos_of : Holdings → List Undone
@@ -28,11 +28,11 @@ GoesBack old new = (first : Held) → LeadsTo (held old) (reverse (undos_of old)
 
 -- a key of a store set or taken away
 abbrev pub with_stored : Held → ℕ → List ℕ → Option (List ℕ) → Held
-with_stored h store key value = record { stores = slice_set h.stores store (with_change (tracked_at h.stores store) key value); unsent = h.unsent }
+with_stored h store key value = record { stores = slice_set h.stores store (with_change (tracked_at h.stores store) key value); unsent = h.unsent; cleared = h.cleared }
 
 -- a record sent to an output
 abbrev pub with_sent : Held → ℕ → Record → Held
-with_sent h output body = record { stores = h.stores; unsent = slice_set h.unsent output (sent_at h.unsent output ++ body ∷ []) }
+with_sent h output body = record { stores = h.stores; unsent = slice_set h.unsent output (sent_at h.unsent output ++ body ∷ []); cleared = h.cleared }
 
 -- the dirty keys of the i-th store
 abbrev pub dirty_at : Held → ℕ → Keys

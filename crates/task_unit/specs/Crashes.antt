@@ -1,11 +1,11 @@
--- What a crash leaves of several logs while they are appended to, and while they are opened.
+-- What a crash leaves of several logs while they are appended to.
 use Rattle.std.specs.Prelude.{ℕ, ◌<◌, ◌+◌, ◌⊎◌, List, [], ◌∷◌, ◌++◌, length, slice_index_or}
 use Rattle.samza_model.specs.declared.messages.Record.{Record}
 use Rattle.samza_model.specs.Files.{Image, checkpoint_file, changelog_file, output_file}
 use Rattle.samza_model.specs.Logs.{HasFrames}
 use Rattle.log_frame.specs.Frame.{FrameView, IsFrame, AreFrames}
 use Rattle.topic_log.specs.declared.logs.Log.{Log}
-use Rattle.task_unit.specs.Standing.{IsOpenAt, SameOutside}
+use Rattle.restore_trim.specs.Standing.{IsOpenAt, SameOutside}
 use Rattle.task_unit.specs.declared.writing.Logs.{Logs}
 use Rattle.task_unit.specs.declared.writing.Plan.{Plan}
 
@@ -62,7 +62,3 @@ pub record HasAll (changelogs outputs : ℕ) (had : TaskFrames) (more : PlanReco
 -- a crash in the writing of a plan leaves the checkpoint file as it was, or all of the plan
 abbrev pub WriteLeaves : ℕ → ℕ → TaskFrames → PlanRecords → Image → Image → Type 0
 WriteLeaves changelogs outputs had more old new = HasPart changelogs outputs had more new ⊎ HasAll changelogs outputs had more new
-
--- each file has the frames that it had
-abbrev pub KeepsEach : Image → Image → Type 0
-KeepsEach old new = (file : ℕ) (frames : List (List Record)) → HasFrames (old file) frames → HasFrames (new file) frames

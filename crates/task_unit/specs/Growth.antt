@@ -1,29 +1,15 @@
 -- How a commit makes a task's files grow, and when one of them would pass 2^40 bytes.
-use Rattle.std.specs.Prelude.{ℕ, ◌<◌, ◌+◌, ◌^◌, ◌⊎◌, List, [], ◌∷◌, length}
+use Rattle.std.specs.Prelude.{ℕ, ◌<◌, ◌⊎◌, List, [], ◌∷◌, length}
 use Rattle.samza_model.specs.declared.messages.Record.{Record}
 use Rattle.samza_model.specs.declared.checkpoints.Checkpoint.{Checkpoint}
 use Rattle.samza_model.specs.declared.setups.Setup.{Setup}
 use Rattle.samza_model.specs.Checkpoint.{Spells}
 use Rattle.samza_model.specs.Content.{sent_at}
 use Rattle.samza_model.specs.Files.{Image, checkpoint_file, changelog_file, output_file}
-use Rattle.samza_model.specs.Logs.{spelled, HasFrames}
 use Rattle.samza_model.specs.Restored.{IsNamed}
-use Rattle.log_frame.specs.Cuts.{IsCut}
+use Rattle.restore_trim.specs.Growth.{Passes, PassesBy}
 use Rattle.task_unit.specs.Held.{unlogged_at}
 use Rattle.task_unit.specs.Planned.{batch_at}
-
--- The log's file passes 2^40 bytes with these frames: it has a gate before each of the frames that it had and of these, and
--- one behind them.
-pub record Passes (bytes : List ℕ) (frames : List (List Record)) : Type 0 where
-  pub had : List (List Record)
-  pub has : HasFrames bytes had
-  pub passes : 2 ^ 40 < length (spelled had) + length (spelled frames) + 1
-
--- the file passes 2^40 bytes with these records, in frames of at most so many
-pub record PassesBy (bytes : List ℕ) (most : ℕ) (records : List Record) : Type 0 where
-  pub frames : List (List Record)
-  pub cut : IsCut most records frames
-  pub passes : Passes bytes frames
 
 -- the file passes 2^40 bytes with the record of a checkpoint of this setup alone in a frame; all of them have as many bytes
 pub record PassesByMark (bytes : List ℕ) (s : Setup) : Type 0 where

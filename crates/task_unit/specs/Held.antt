@@ -6,10 +6,12 @@ use Rattle.kv_store.specs.Tracked.{Tracked, IsDirty, no_keys, undone, unlogged_r
 use Rattle.task_unit.specs.declared.acting.Undone.{Undone}
 use Rattle.task_unit.specs.declared.acting.Undone.TheVariants.{Changed, Sent}
 
--- the stores in the setup's order, and what each output was sent since the last commit, oldest first
+-- the stores in the setup's order, what each output was sent since the last commit, oldest first, and how many records it was
+-- sent before
 pub record Held : Type 0 where
   pub stores : List Tracked
   pub unsent : List (List Record)
+  pub cleared : List ℕ
 
 abbrev pub tracked_at : List Tracked → ℕ → Tracked
 tracked_at stores i = slice_index_or stores i (record { content = nothing_stored; dirty = no_keys })
@@ -33,8 +35,8 @@ state_of h = record { stores = contents_of h.stores; sent = h.unsent }
 
 -- a change of a store, or the last record sent to an output, taken back
 abbrev pub taken_back : Held → Undone → Held
-taken_back h (Changed store undo) = record { stores = slice_set h.stores store (undone (tracked_at h.stores store) undo); unsent = h.unsent }
-taken_back h (Sent output) = record { stores = h.stores; unsent = slice_set h.unsent output (take (length (sent_at h.unsent output) - 1) (sent_at h.unsent output)) }
+taken_back h (Changed store undo) = record { stores = slice_set h.stores store (undone (tracked_at h.stores store) undo); unsent = h.unsent; cleared = h.cleared }
+taken_back h (Sent output) = record { stores = h.stores; unsent = slice_set h.unsent output (take (length (sent_at h.unsent output) - 1) (sent_at h.unsent output)); cleared = h.cleared }
 
 -- it may be taken back
 abbrev pub MayTake : Held → Undone → Type 0

@@ -3,12 +3,10 @@ pub mod Appending
 pub mod Crashes
 pub mod Growth
 pub mod Held
-pub mod Naming
+pub mod Inputs
 pub mod Opens
 pub mod Planned
-pub mod Refused
 pub mod Room
-pub mod Standing
 pub mod Touched
 pub mod Units
 pub mod Written

@@ -7,16 +7,16 @@ use Rattle.samza_model.specs.Content.{Content}
 use Rattle.samza_model.specs.Files.{Image}
 use Rattle.samza_model.specs.Logs.{HasLog}
 use Rattle.samza_model.specs.Restored.{Restores, next_at, start_of}
-use Rattle.task_unit.specs.Refused.{CountsHold}
+use Rattle.restore_trim.specs.Refused.{StoresOpen}
 use Rattle.task_unit.specs.Units.{input_of}
 
--- the task's files restore, each changelog has just the records that are counted, the input's file is a log, and where the input
--- begins isn't past its end
+-- the task's files restore, each changelog has room for what takes the records behind those that are counted back, the input's
+-- file is a log, and where the input begins isn't past its end
 pub record Opens (s : Setup) (image : Image) (bytes : List ℕ) : Type 0 where
   pub mark : Option Checkpoint
   pub stores : List Content
   pub messages : List Record
   pub restored : Restores s image mark stores
-  pub counts : CountsHold image mark (length s.stores)
+  pub opens : StoresOpen image mark (length s.stores)
   pub has_messages : HasLog bytes messages
   pub within : start_of (next_at mark 0) (input_of s) (record { first = 0; records = messages }) ≤ length messages

@@ -12,7 +12,7 @@ use Rattle.log_frame.specs.Frame.{FrameView, AreFrames}
 use Rattle.topic_log.specs.declared.logs.Log.{Log}
 use Rattle.topic_log.specs.Opened.{HasExtent}
 use Rattle.task_unit.specs.Held.{tracked_at}
-use Rattle.task_unit.specs.Naming.{mark_names, setup_names}
+use Rattle.restore_trim.specs.Naming.{mark_names, setup_names}
 use Rattle.task_unit.specs.Room.{HasRoom}
 
 -- how many records a frame of the i-th store's changelog has at most

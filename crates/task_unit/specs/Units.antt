@@ -1,5 +1,5 @@
 -- A task's unit: what it holds, what stands on its disk, and what its calls do.
-use Rattle.std.specs.Prelude.{◌⊎◌, ◌↔◌, ℕ, ◌≡◌, ◌<◌, ◌≤◌, ◌+◌, ◌-◌, ◌^◌, Bool, false, List, [], ◌++◌, length, Option, Some, None, slice_get, slice_index_or}
+use Rattle.std.specs.Prelude.{◌⊎◌, ◌↔◌, ℕ, ◌≡◌, ◌<◌, ◌≤◌, ◌+◌, ◌-◌, Bool, false, List, [], ◌++◌, length, Option, Some, None, slice_get, slice_index_or}
 use Rattle.std.specs.List.{AllByRecursion}
 use Rattle.std.specs.FinMap as fin
 use Rattle.std.specs.Coded.{Coded, coded_list, coded_ℕ}
@@ -20,16 +20,18 @@ use Rattle.samza_model.specs.Restored.{HasMark, IsNamed, Restores, id_of, next_a
 use Rattle.samza_model.specs.Runs.{runs}
 use Rattle.kv_store.specs.Tracked.{Tracked, AgreesOnClean}
 use Rattle.topic_log.specs.declared.logs.Log.{Log}
-use Rattle.topic_log.specs.Opened.{size_of}
+use Rattle.restore_trim.specs.declared.faults.OpenFault.{OpenFault}
+use Rattle.restore_trim.specs.declared.faults.OpenFault.TheVariants.{Ahead}
+use Rattle.restore_trim.specs.Refused.{FilesHold, HasChanges, WhyRefused}
+use Rattle.restore_trim.specs.Standing.{IsOpenAt}
+use Rattle.changelog.specs.Folds.{reverts_of}
+use Rattle.log_frame.specs.Cuts.{IsCut}
 use Rattle.task_unit.specs.declared.acting.Holdings.{Holdings}
 use Rattle.task_unit.specs.declared.writing.Logs.{Logs}
 use Rattle.task_unit.specs.Acting.{held, undos_of, IsSized}
 use Rattle.task_unit.specs.Appending.{AreOpen}
 use Rattle.task_unit.specs.Held.{Held, tracked_at, unlogged_at}
-use Rattle.task_unit.specs.declared.faults.OpenFault.{OpenFault}
-use Rattle.task_unit.specs.declared.faults.OpenFault.TheVariants.{Ahead}
-use Rattle.task_unit.specs.Refused.{CountsHold, FilesHold, WhyRefused, WhyNoInput}
-use Rattle.task_unit.specs.Standing.{IsOpenAt}
+use Rattle.task_unit.specs.Inputs.{WhyNoInput}
 use Rattle.task_unit.specs.Touched.{acts_of, touched, keys_in, records_of}
 use Rattle.task_unit.specs.Written.{AreSound}
 
@@ -41,11 +43,12 @@ pub record IsSetUp (s : Setup) : Type 0 where
   pub few_outputs : length s.outputs ≤ 8
   pub batches : AllByRecursion (λ t. (1 ≤ t.batch) × (t.batch ≤ 4096)) s.stores
 
--- a store's changelog is open, has as many records as the checkpoint counts, and makes a content that the store has but for its dirty keys
+-- a store's changelog is open, has as many records as the checkpoint counts or more, and all of them make a content that the store
+-- has but for its dirty keys
 pub record StoreStands (reads : Image) (images : Image → Type 0) (file count : ℕ) (log : Log) (t : Tracked) : Type 0 where
   pub frames : List (List Record)
   pub is_open : IsOpenAt reads images file log frames
-  pub count_is : count ≡ length (joined frames)
+  pub enough : count ≤ length (joined frames)
   pub agrees : AgreesOnClean t (foldrec (joined frames))
 
 -- the checkpoint file's log is open and ends with this checkpoint
@@ -64,16 +67,8 @@ pub record OnDisk (reads : Image) (images : Image → Type 0) (s : Setup) (logs 
 abbrev pub appended_at : List ℕ → ℕ → ℕ
 appended_at appended j = slice_index_or appended j 0
 
--- no log grew by more records than a file may have bytes
-abbrev pub AreFew : List ℕ → Type 0
-AreFew appended = (j : ℕ) → j < length appended → appended_at appended j ≤ 2 ^ 40
-
--- no log grew by more records than its file has bytes
-abbrev pub AreWithin : List ℕ → List Log → Type 0
-AreWithin appended logs = (j : ℕ) (d : Log) → j < length logs → appended_at appended j ≤ size_of (slice_index_or logs j d)
-
 -- what a unit keeps
-pub record IsUnit {D : Type 0} (tells : Type 0) (reads : D → Image) (images : D → Image → Type 0) (s : Setup) (disk : D) (logs : Logs) (mark : Option Checkpoint) (h : Holdings) (messages : List Record) (begun next : ℕ) (appended : List ℕ) (broken : Bool) : Type 0 where
+pub record IsUnit {D : Type 0} (tells : Type 0) (reads : D → Image) (images : D → Image → Type 0) (s : Setup) (disk : D) (logs : Logs) (mark : Option Checkpoint) (h : Holdings) (messages : List Record) (begun next : ℕ) (broken : Bool) : Type 0 where
   pub set_up : IsSetUp s
   pub sized : IsSized s (held h)
   pub idle : undos_of h ≡ []
@@ -83,9 +78,6 @@ pub record IsUnit {D : Type 0} (tells : Type 0) (reads : D → Image) (images : 
   pub within : next ≤ length messages
   pub sound : broken ≡ false → AreSound logs
   pub stands : broken ≡ false → tells → OnDisk (reads disk) (images disk) s logs mark (held h)
-  pub appended_are : length appended ≡ length s.outputs
-  pub few_appended : AreFew appended
-  pub appended_within : broken ≡ false → AreWithin appended logs.outputs.items
 
 -- each output's log has what it had, followed by what was sent
 abbrev pub SendsFollow : Image → Image → Setup → List (List Record) → Type 0
@@ -95,11 +87,25 @@ SendsFollow before after s unsent = (j : ℕ) (had : List Record) → j < length
 abbrev pub SameFrames : Image → Image → ℕ → Type 0
 SameFrames before after file = (frames : List (List Record)) → HasFrames (before file) frames ↔ HasFrames (after file) frames
 
--- each log of the task has the frames that it had
-pub record LogsStay (s : Setup) (before after : Image) : Type 0 where
+-- a changelog has the frames that it had and, behind them, what takes the records behind so many back, in frames of at most 500
+abbrev pub IsTrimmed : ℕ → List ℕ → List ℕ → Type 0
+IsTrimmed count before after = (frames : List (List Record)) → HasFrames before frames
+    → (reverts : List (List Record)) × IsCut 500 (reverts_of count (joined frames)) reverts × HasFrames after (frames ++ reverts)
+
+-- the checkpoint file and each output's log have the frames that they had, and each changelog has its records behind those that
+-- the checkpoint counts taken back
+pub record LogsStay (s : Setup) (mark : Option Checkpoint) (before after : Image) : Type 0 where
   pub marks : SameFrames before after checkpoint_file
-  pub changelogs : (i : ℕ) → i < length s.stores → SameFrames before after (changelog_file i)
+  pub changelogs : (i : ℕ) → i < length s.stores → IsTrimmed (count_at mark i) (before (changelog_file i)) (after (changelog_file i))
   pub outputs : (j : ℕ) → j < length s.outputs → SameFrames before after (output_file j)
+
+-- all records of each changelog make its store's content
+abbrev pub AreWhole : Setup → Image → List Content → Type 0
+AreWhole s image stores = (i : ℕ) (records : List Record) → i < length s.stores → HasLog (image (changelog_file i)) records → foldrec records ≡ store_at stores i
+
+-- each of the first so many changelogs has as many records as the checkpoint counts
+abbrev pub CountsHold : Image → Option Checkpoint → ℕ → Type 0
+CountsHold image mark n = (i : ℕ) → i < n → HasChanges image i (count_at mark i)
 
 -- the image has the next checkpoint: its number is one more, it covers all below the next offset, it counts all records of each
 -- changelog, and it restores to these contents
@@ -123,12 +129,6 @@ pub record IsUncommitted (s : Setup) (before after : Image) (mark : Option Check
 -- what a crash in a commit leaves: the checkpoint before and its contents, or the next checkpoint and the unit's stores
 abbrev pub CommitLeaves : Setup → Image → Image → Option Checkpoint → List Content → ℕ → State → Type 0
 CommitLeaves s before after mark contents next state = IsUncommitted s before after mark contents state.sent ⊎ ((made : Checkpoint) × IsCommitted s before after mark next state made)
-
--- what a crash in an opening leaves: the files restore to the checkpoint and the contents to which they did, and each output's
--- log has what it had
-pub record OpeningLeaves (s : Setup) (before after : Image) : Type 0 where
-  pub restores : (mark : Option Checkpoint) (contents : List Content) → Restores s before mark contents → Restores s after mark contents
-  pub sends : (j : ℕ) (had : List Record) → j < length s.outputs → HasLog (before (output_file j)) had → HasLog (after (output_file j)) had
 
 abbrev pub content_code : Coded Content
 content_code = fin.code (coded_list coded_ℕ) (coded_list coded_ℕ)

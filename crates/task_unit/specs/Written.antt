@@ -1,5 +1,5 @@
 -- What a commit writes to a task's logs.
-use Rattle.std.specs.Prelude.{◌≡◌, ◌≤◌, ◌⊎◌, false, All, List, [], ◌∷◌, ◌++◌, length}
+use Rattle.std.specs.Prelude.{◌≡◌, ◌≤◌, ◌⊎◌, false, List, [], ◌∷◌, ◌++◌, length}
 use Rattle.samza_model.specs.declared.messages.Record.{Record}
 use Rattle.samza_model.specs.Files.{Image, checkpoint_file, changelog_file, output_file}
 use Rattle.log_frame.specs.Frame.{FrameView, IsFrame}
@@ -7,12 +7,9 @@ use Rattle.topic_log.specs.declared.logs.Log.{Log}
 use Rattle.topic_log.specs.Opened.{is_broken}
 use Rattle.task_unit.specs.Appending.{AreOpen, AreAppended}
 use Rattle.task_unit.specs.Room.{HasRoom, LacksRoom, HaveRoom, OneLacksRoom}
-use Rattle.task_unit.specs.Standing.{IsOpenAt}
+use Rattle.restore_trim.specs.Standing.{IsOpenAt, AllSound}
 use Rattle.task_unit.specs.declared.writing.Logs.{Logs}
 use Rattle.task_unit.specs.declared.writing.Plan.{Plan}
-
-abbrev pub AllSound : List Log → Type 0
-AllSound logs = All (λ (l : Log). is_broken l ≡ false) logs
 
 -- no call on a log answered Device
 pub record AreSound (logs : Logs) : Type 0 where

@@ -10,8 +10,8 @@ ghost use Rattle.task_unit.specs.Touched.{acts_of};
 ghost use Rattle.samza_model.specs.declared.turns.Why.{Why};
 ghost use Rattle.task_unit.specs.Held.{Held, state_of, tracked_at, taken_back, MayTake, LeadsTo};
 
-use crate::sends::Sends;
 use kv_store::{TrackedTable, Undo};
+use output_log::Outputs;
 use samza_model::{Act, Answer, Bin, Envelope, Job, NoMemory, Plain, Record, Setup, Why};
 use std::alloc::Global;
 
@@ -22,25 +22,25 @@ pub(crate) enum Undone {
     Sent { output: u32 },
 }
 
-/// What a task holds in memory: its stores, what it sent since the last commit, and what takes back the acts of a
-/// message that isn't done yet, the oldest first.
+/// What a task holds in memory: its stores, what its outputs were sent, and what takes back the acts of a message that
+/// isn't done yet, the oldest first.
 #[derive(Drop)]
 pub(crate) struct Holdings {
     alloc: Global,
     pub(crate) stores: Vec<TrackedTable>,
-    pub(crate) unsent: Vec<Sends>,
+    pub(crate) outputs: Outputs,
     undos: Vec<Undone>,
 }
 
 impl Holdings {
-    pub(crate) fn new(alloc: Global, stores: Vec<TrackedTable>, unsent: Vec<Sends>) -> Holdings
-        ensures held { held result ≡ record { stores = stores.items; unsent = unsent.items } }
+    pub(crate) fn new(alloc: Global, stores: Vec<TrackedTable>, outputs: Outputs) -> Holdings
+        ensures held { held result ≡ record { stores = stores.items; unsent = outputs.unsent; cleared = outputs.cleared } }
         ensures undos { undos_of result ≡ [] }
     {
         Holdings {
             alloc,
             stores,
-            unsent,
+            outputs,
             undos: Vec::new(alloc),
         }
     }
@@ -53,7 +53,7 @@ impl Holdings {
     {
         match undone {
             Undone::Changed { store, undo } => self.stores[store as usize].take_back(undo),
-            Undone::Sent { output } => self.unsent[output as usize].drop_last(),
+            Undone::Sent { output } => self.outputs.take_back(output),
         }
     }
 
@@ -92,7 +92,7 @@ impl Holdings {
         ensures back { GoesBack self.old self.new }
     {
         self.undos.reserve(1)?;
-        self.unsent[output as usize].push(body)?;
+        self.outputs.send(output, body)?;
         self.undos.push_reserved(Undone::Sent { output });
         Ok(Answer::Noted)
     }
@@ -108,6 +108,7 @@ impl Holdings {
         ensures back { GoesBack self.old self.new }
         ensures clean { KeepsClean (held self.old) (held self.new) }
         ensures sizes { SameSizes (held self.old) (held self.new) }
+        ensures counts { (held self.new).cleared ≡ (held self.old).cleared }
     {
         match self.change(store, key, Some(value)) {
             Ok(answer) => Ok(answer),
@@ -125,6 +126,7 @@ impl Holdings {
         ensures back { GoesBack self.old self.new }
         ensures clean { KeepsClean (held self.old) (held self.new) }
         ensures sizes { SameSizes (held self.old) (held self.new) }
+        ensures counts { (held self.new).cleared ≡ (held self.old).cleared }
     {
         match self.change(store, key, None) {
             Ok(answer) => Ok(answer),
@@ -142,6 +144,7 @@ impl Holdings {
         ensures back { GoesBack self.old self.new }
         ensures clean { KeepsClean (held self.old) (held self.new) }
         ensures sizes { SameSizes (held self.old) (held self.new) }
+        ensures counts { (held self.new).cleared ≡ (held self.old).cleared }
     {
         match self.send(output, body) {
             Ok(answer) => Ok(answer),
@@ -201,6 +204,7 @@ impl Holdings {
         ensures back { GoesBack self.old self.new }
         ensures clean { KeepsClean (held self.old) (held self.new) }
         ensures sized { IsSized setup.now (held self.new) }
+        ensures counts { (held self.new).cleared ≡ (held self.old).cleared }
     {
         match act {
             Act::Get { store, key } => self.get(store, &key),
@@ -227,6 +231,7 @@ impl Holdings {
         ensures back { GoesBack self.old self.new }
         ensures clean { KeepsClean (held self.old) (held self.new) }
         ensures sized { IsSized setup.now (held self.new) }
+        ensures counts { (held self.new).cleared ≡ (held self.old).cleared }
     {
         let mut answers = Vec::new(self.alloc);
         for _made in 0..1_023u32 {
@@ -264,6 +269,7 @@ impl Holdings {
         ensures err { OnErr result (held self.new ≡ held self.old) }
         ensures clean { KeepsClean (held self.old) (held self.new) }
         ensures sized { IsSized setup.now (held self.new) }
+        ensures counts { (held self.new).cleared ≡ (held self.old).cleared }
         ensures idle { undos_of self.new ≡ [] }
     {
         match self.act_on(job, setup, envelope) {

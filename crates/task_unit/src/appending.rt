@@ -7,8 +7,8 @@ ghost use Rattle.topic_log.specs.declared.logs.Log.{Log as LogValue};
 ghost use Rattle.topic_log.specs.Opened.{is_broken, IsOpen};
 ghost use Rattle.task_unit.specs.Appending.{AreOpen, AreAppended, IsOutside};
 ghost use Rattle.task_unit.specs.Crashes.{HaveFrames, AreFramesOf, AppendsEach};
-ghost use Rattle.task_unit.specs.Room.{HaveGrown, HaveRoom};
-ghost use Rattle.task_unit.specs.Standing.{SameOutside};
+ghost use Rattle.task_unit.specs.Room.{HaveRoom};
+ghost use Rattle.restore_trim.specs.Standing.{SameOutside};
 
 use crate::CommitFault;
 use disk_model::Disk;
@@ -33,7 +33,6 @@ pub(crate) fn append_each<D: Disk>(
     ensures elsewhere { OnOk result (D.tells → (first : ℕ) → AreOpen (D.reads disk.old) (D.images disk.old) first logs.old.items → SameOutside first (length logs.old.items) (D.reads disk.old) (D.reads disk.new)) }
     ensures any_moment { D.tells → (first : ℕ) (had more : ℕ → List (List Record)) → HaveFrames (D.reads disk.old) (D.images disk.old) first logs.old.items had → AreFramesOf (length logs.old.items) frames.now more
         → LeavesOnly D.call_number D.images D.images_since disk.old disk.new (AppendsEach first (length logs.old.items) had more) }
-    ensures grown { OnOk result (HaveGrown logs.old.items logs.new.items frames.now) }
     ensures as_many { length logs.new.items ≡ length logs.old.items }
     ensures sound { OnOk result (All (λ (l : LogValue). is_broken l ≡ false) logs.new.items) }
     ensures device { IfErr result (λ e. (e ≡ CommitFault.Device) × Rose (D.fault_count disk.old) (D.fault_count disk.new)) }

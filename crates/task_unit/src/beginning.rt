@@ -1,5 +1,5 @@
 // Where a unit begins: its files restored, its input read, and its first message found.
-ghost use Rattle.std.specs.Prelude.{◌≡◌, ◌≢◌, ◌≤◌, ◌<◌, ◌⊎◌, ℕ, [], false, List, length, Some, None, IfOk, IfErr, IfSome, OnOk};
+ghost use Rattle.std.specs.Prelude.{◌≡◌, ◌≢◌, ◌≤◌, ◌<◌, ◌⊎◌, ℕ, [], false, All, List, length, Some, None, IfOk, IfErr, IfSome, OnOk};
 ghost use Rattle.samza_model.specs.declared.messages.Record.{Record as RecordValue};
 ghost use Rattle.samza_model.specs.declared.messages.Envelope.{Envelope as EnvelopeValue};
 ghost use Rattle.samza_model.specs.declared.checkpoints.Checkpoint.{Checkpoint as CheckpointValue};
@@ -9,26 +9,30 @@ ghost use Rattle.samza_model.specs.Files.{Image};
 ghost use Rattle.samza_model.specs.Logs.{HasLog};
 ghost use Rattle.samza_model.specs.Restored.{Restores, next_at, start_of};
 ghost use Rattle.disk_model.specs.Images.{LeavesOnly};
-ghost use Rattle.task_unit.specs.Crashes.{KeepsEach};
+ghost use Rattle.kv_store.specs.Tracked.{AreWithinLimits};
+ghost use Rattle.restore_trim.specs.Crashes.{OpeningLeaves};
+ghost use Rattle.restore_trim.specs.Refused.{StoresOpen};
+ghost use Rattle.restore_trim.specs.Standing.{OthersStay};
 ghost use Rattle.task_unit.specs.Acting.{held, undos_of, IsSized};
-ghost use Rattle.task_unit.specs.Held.{AreClean, state_of};
-ghost use Rattle.task_unit.specs.Refused.{CountsHold, WhyNoInput};
-ghost use Rattle.task_unit.specs.Standing.{OthersStay};
-ghost use Rattle.task_unit.specs.Units.{IsSetUp, LogsStay, IsMessage, OnDisk, appended_at, input_of, WhyNotOpened};
+ghost use Rattle.task_unit.specs.Held.{AreClean, contents_of, state_of};
+ghost use Rattle.task_unit.specs.Inputs.{WhyNoInput};
+ghost use Rattle.task_unit.specs.Units.{IsSetUp, LogsStay, AreWhole, IsMessage, OnDisk, appended_at, input_of, WhyNotOpened};
 ghost use Rattle.task_unit.specs.Written.{AreSound};
 
 use crate::OpenFault;
 use crate::acting::Holdings;
-use crate::restoring::restore;
-use crate::sends::Sends;
+use crate::lists::put;
 use crate::writing::Logs;
+use changelog::Changelog;
 use disk_model::{Disk, Shelf};
-use kv_store::TrackedTable;
+use kv_store::{Table, TrackedTable};
+use output_log::Outputs;
+use restore_trim::restore;
 use samza_model::{
-    Checkpoint, Envelope, InputSetup, NoMemory, OffsetDefault, Plain, Record, Setup,
+    Checkpoint, Envelope, InputSetup, Items, NoMemory, OffsetDefault, Plain, Record, Setup,
 };
 use std::alloc::Global;
-use topic_log::{LogFault, read_shelf};
+use topic_log::{Log, LogFault, read_shelf};
 
 /// What a unit begins with.
 #[derive(Drop)]
@@ -38,7 +42,6 @@ pub(crate) struct Started {
     pub(crate) holdings: Holdings,
     pub(crate) messages: Vec<Record>,
     pub(crate) next: u64,
-    pub(crate) appended: Vec<u64>,
 }
 
 /// The input's message at an offset, with its place.
@@ -63,28 +66,28 @@ pub(crate) fn envelope_at(
     }
 }
 
-/// Outputs to which nothing was sent.
-fn no_sends(alloc: Global, outputs: usize) -> Result<Vec<Sends>, NoMemory>
-    ensures as_many { IfOk result (λ r. length r.items ≡ outputs) }
-    ensures none { IfOk result (λ r. (j : ℕ) → j < outputs → sent_at r.items j ≡ []) }
+/// The tables as stores in which no key is dirty.
+fn track_all(alloc: Global, tables: Items<Table>) -> Result<Vec<TrackedTable>, NoMemory>
+    requires { All AreWithinLimits tables }
+    ensures contents { IfOk result (λ r. contents_of r.items ≡ tables) }
+    ensures clean { IfOk result (λ r. AreClean r.items) }
 {
-    let mut unsent = Vec::new(alloc);
-    for _j in 0..outputs {
-        unsent.push(Sends::new(alloc))?;
+    let mut stores = Vec::new(alloc);
+    for table in tables.into_vec() {
+        put(&mut stores, TrackedTable::with(alloc, table))?;
     }
-    Ok(unsent)
+    Ok(stores)
 }
 
-/// A count of 0 for each output.
-fn no_counts(alloc: Global, outputs: usize) -> Result<Vec<u64>, NoMemory>
-    ensures as_many { IfOk result (λ r. length r.items ≡ outputs) }
-    ensures none { IfOk result (λ r. (j : ℕ) → j < outputs → appended_at r.items j ≡ 0) }
+/// The changelogs' logs.
+fn logs_of(alloc: Global, changelogs: Items<Changelog>) -> Result<Vec<Log>, NoMemory>
+    ensures { IfOk result (λ r. r.items ≡ changelogs) }
 {
-    let mut counts = Vec::new(alloc);
-    for _j in 0..outputs {
-        counts.push(0)?;
+    let mut logs = Vec::new(alloc);
+    for changelog in changelogs.into_vec() {
+        put(&mut logs, changelog.into_log())?;
     }
-    Ok(counts)
+    Ok(logs)
 }
 
 /// An input's first offset: the kept one, unless there is none or the input is reset.
@@ -136,14 +139,15 @@ fn first_input(setup: &Setup) -> &InputSetup
 }
 
 /// What a unit holds at its start.
-fn hold(alloc: Global, stores: Vec<TrackedTable>, outputs: usize) -> Result<Holdings, NoMemory>
+fn hold(alloc: Global, stores: Vec<TrackedTable>, outputs: u32) -> Result<Holdings, NoMemory>
     ensures stores { IfOk result (λ h. (held h).stores ≡ stores.items) }
     ensures outputs { IfOk result (λ h. length (held h).unsent ≡ outputs) }
     ensures none { IfOk result (λ h. (j : ℕ) → j < outputs → sent_at (held h).unsent j ≡ []) }
+    ensures none_before { IfOk result (λ h. (j : ℕ) → j < outputs → appended_at (held h).cleared j ≡ 0) }
     ensures idle { IfOk result (λ h. undos_of h ≡ []) }
 {
-    let unsent = no_sends(alloc, outputs)?;
-    Ok(Holdings::new(alloc, stores, unsent))
+    let outputs = Outputs::new(alloc, outputs)?;
+    Ok(Holdings::new(alloc, stores, outputs))
 }
 
 /// An input's messages.
@@ -182,8 +186,9 @@ pub(crate) fn start<D: Disk, S: Shelf>(
     requires { IsSetUp setup.now }
     ensures on_disk { IfOk result (λ r. D.tells → OnDisk (D.reads disk.new) (D.images disk.new) setup.now r.logs r.mark (held r.holdings)) }
     ensures restored { IfOk result (λ r. D.tells → Restores setup.now (D.reads disk.old) r.mark (state_of (held r.holdings)).stores) }
-    ensures counts { IfOk result (λ r. D.tells → CountsHold (D.reads disk.old) r.mark (length setup.now.stores)) }
-    ensures logs_stay { OnOk result (D.tells → LogsStay setup.now (D.reads disk.old) (D.reads disk.new)) }
+    ensures opens { IfOk result (λ r. D.tells → StoresOpen (D.reads disk.old) r.mark (length setup.now.stores)) }
+    ensures logs_stay { IfOk result (λ r. D.tells → LogsStay setup.now r.mark (D.reads disk.old) (D.reads disk.new)) }
+    ensures whole { IfOk result (λ r. D.tells → AreWhole setup.now (D.reads disk.new) (state_of (held r.holdings)).stores) }
     ensures others { OnOk result (D.tells → OthersStay (length setup.now.stores) (length setup.now.outputs) (D.reads disk.old) (D.reads disk.new)) }
     ensures unsent { IfOk result (λ r. (j : ℕ) → j < length setup.now.outputs → sent_at (held r.holdings).unsent j ≡ []) }
     ensures messages { IfOk result (λ r. S.tells → HasLog (S.bytes shelf.old) r.messages.items) }
@@ -195,11 +200,10 @@ pub(crate) fn start<D: Disk, S: Shelf>(
     ensures changelogs { IfOk result (λ r. length r.logs.changelogs.items ≡ length setup.now.stores) }
     ensures outputs { IfOk result (λ r. length r.logs.outputs.items ≡ length setup.now.outputs) }
     ensures sound { IfOk result (λ r. AreSound r.logs) }
-    ensures appended { IfOk result (λ r. length r.appended.items ≡ length setup.now.outputs) }
-    ensures none_appended { IfOk result (λ r. (j : ℕ) → j < length setup.now.outputs → appended_at r.appended.items j ≡ 0) }
+    ensures none_appended { IfOk result (λ r. (j : ℕ) → j < length setup.now.outputs → appended_at (held r.holdings).cleared j ≡ 0) }
     ensures why { IfErr result (λ e. WhyNotOpened D.tells S.tells setup.now (D.reads disk.old) (S.bytes shelf.old) e) }
     ensures durable { IfOk result (λ r. D.tells → (c : Image) → D.images disk.new c → Restores setup.now c r.mark (state_of (held r.holdings)).stores) }
-    ensures any_moment { D.tells → LeavesOnly D.call_number D.images D.images_since disk.old disk.new KeepsEach }
+    ensures any_moment { D.tells → LeavesOnly D.call_number D.images D.images_since disk.old disk.new (OpeningLeaves setup.now) }
     ensures device { IfErr result (λ e. e ≡ OpenFault.Device → Rose (D.fault_count disk.old) (D.fault_count disk.new) ⊎ Rose (S.fault_count shelf.old) (S.fault_count shelf.new)) }
     ensures later { (D.fault_count disk.old ≤ D.fault_count disk.new) × (S.fault_count shelf.old ≤ S.fault_count shelf.new) }
     ensures name { D.name disk.new ≡ D.name disk.old }
@@ -215,27 +219,29 @@ pub(crate) fn start<D: Disk, S: Shelf>(
         Err(fault) => return Err(fault),
     };
     let next = match first_offset(
-        kept_offset(&restored.mark),
+        kept_offset(&restored.checkpoint),
         input,
         messages.as_slice().len() as u64,
     ) {
         Ok(next) => next,
         Err(fault) => return Err(fault),
     };
-    let holdings = match hold(alloc, restored.tables, setup.outputs.as_slice().len()) {
+    let stores = track_all(alloc, restored.tables)?;
+    let changelogs = logs_of(alloc, restored.changelogs)?;
+    let outputs = setup.outputs.as_slice().len() as u32;
+    let holdings = match hold(alloc, stores, outputs) {
         Ok(holdings) => holdings,
         Err(_) => return Err(OpenFault::NoMemory),
     };
-    let appended = match no_counts(alloc, setup.outputs.as_slice().len()) {
-        Ok(appended) => appended,
-        Err(_) => return Err(OpenFault::NoMemory),
-    };
     Ok(Started {
-        logs: restored.logs,
-        mark: restored.mark,
+        logs: Logs {
+            marks: restored.marks,
+            changelogs,
+            outputs: restored.outputs.into_vec(),
+        },
+        mark: restored.checkpoint,
         holdings,
         messages,
         next,
-        appended,
     })
 }

@@ -1,8 +1,7 @@
 // A commit: planned in memory, written to the logs, and then nothing is dirty or unsent.
-ghost use Rattle.std.specs.Prelude.{◌≡◌, ◌≢◌, ◌+◌, ◌<◌, ◌^◌, ◌∷◌, [], ℕ, length, map, Some, IfOk, IfErr};
+ghost use Rattle.std.specs.Prelude.{◌≡◌, ◌+◌, ◌<◌, ◌∷◌, [], ℕ, length, Some, IfOk};
 ghost use Rattle.samza_model.specs.declared.messages.Record.{Record};
 ghost use Rattle.samza_model.specs.Checkpoint.{Spells};
-ghost use Rattle.samza_model.specs.Content.{sent_at};
 ghost use Rattle.samza_model.specs.Restored.{IsNamed, next_at};
 ghost use Rattle.kv_store.specs.Tracked.{no_keys};
 ghost use Rattle.log_frame.specs.Frame.{IsFrame};
@@ -10,11 +9,10 @@ ghost use Rattle.topic_log.specs.Opened.{count_of};
 ghost use Rattle.task_unit.specs.Acting.{held, IsSized};
 ghost use Rattle.task_unit.specs.Held.{tracked_at, contents_of};
 ghost use Rattle.task_unit.specs.Planned.{PlansStores, PlansSends};
-ghost use Rattle.task_unit.specs.Units.{IsSetUp, appended_at};
+ghost use Rattle.task_unit.specs.Units.{IsSetUp};
 
 use crate::acting::Holdings;
 use crate::planning::{make_mark, mark_frame, plan_sends, plan_stores};
-use crate::sends::Sends;
 use crate::writing::{Logs, Plan};
 use kv_store::TrackedTable;
 use samza_model::{Checkpoint, NoMemory, Setup};
@@ -39,7 +37,7 @@ pub(crate) fn plan_commit(
     ensures id { IfOk result (λ r. r.1.id ≡ count_of logs.now.marks + 1) }
     ensures next { IfOk result (λ r. next_at (Some r.1) 0 ≡ Some next) }
 {
-    let sends = plan_sends(alloc, holdings.unsent.as_slice())?;
+    let sends = plan_sends(alloc, &holdings.outputs)?;
     let (changes, stores) = plan_stores(
         alloc,
         setup,
@@ -66,27 +64,5 @@ pub(crate) fn flush_all(stores: &mut Vec<TrackedTable>)
 {
     for i in 0..stores.len() {
         stores[i].flushed();
-    }
-}
-
-/// The counts of what was appended to each output, with what was unsent.
-pub(crate) fn count_all(appended: &mut Vec<u64>, unsent: &[Sends])
-    requires as_many { length unsent.now ≡ length appended.old.items }
-    requires few { (j : ℕ) → j < length unsent.now → appended_at appended.old.items j + length (sent_at unsent.now j) < 2 ^ 64 }
-    ensures as_many { length appended.new.items ≡ length appended.old.items }
-    ensures counted { (j : ℕ) → j < length unsent.now → appended_at appended.new.items j ≡ appended_at appended.old.items j + length (sent_at unsent.now j) }
-{
-    for j in 0..appended.len() {
-        appended[j] += unsent[j].as_slice().len() as u64;
-    }
-}
-
-/// Nothing is unsent from now on.
-pub(crate) fn clear_all(unsent: &mut Vec<Sends>)
-    ensures as_many { length unsent.new.items ≡ length unsent.old.items }
-    ensures clear { (j : ℕ) → j < length unsent.new.items → sent_at unsent.new.items j ≡ [] }
-{
-    for j in 0..unsent.len() {
-        unsent[j].clear();
     }
 }

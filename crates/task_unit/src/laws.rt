@@ -1,21 +1,13 @@
 // Laws of the definitions.
-ghost use Rattle.std.specs.Prelude.{◌≡◌, ◌≢◌, ℕ, List, Option};
-ghost use Rattle.samza_model.specs.declared.checkpoints.Checkpoint.{Checkpoint};
+ghost use Rattle.std.specs.Prelude.{◌≡◌, ◌≢◌, ℕ, List};
 ghost use Rattle.samza_model.specs.declared.setups.Setup.{Setup};
-ghost use Rattle.samza_model.specs.Content.{Content};
 ghost use Rattle.samza_model.specs.Files.{Image};
-ghost use Rattle.samza_model.specs.Restored.{Restores};
-ghost use Rattle.task_unit.specs.declared.faults.OpenFault.{OpenFault as OpenFaultValue};
+ghost use Rattle.restore_trim.specs.declared.faults.OpenFault.{OpenFault as OpenFaultValue};
 ghost use Rattle.task_unit.specs.Opens.{Opens};
 ghost use Rattle.task_unit.specs.Units.{WhyNotOpened};
 
 use crate::OpenFault;
 use disk_model::{Disk, Shelf};
-
-/// A task's files restore to one checkpoint and to one content of each store.
-pub fn restores_to_one()
-    ensures { (s : Setup) (image : Image) (mark mark' : Option Checkpoint) (stores stores' : List Content) → Restores s image mark stores → Restores s image mark' stores' → (mark ≡ mark') × (stores ≡ stores') }
-{}
 
 /// Where a task can be opened there is no cause not to open it: beside `Device` and `NoMemory` no fault has one.
 pub fn opens_or_says_why()

@@ -8,14 +8,12 @@ mod committing;
 mod faults;
 mod laws;
 mod lists;
-mod naming;
 mod planning;
-mod restoring;
 mod room;
-mod sends;
 mod units;
 mod writing;
 
-pub use faults::{CommitFault, OneFault, OpenFault};
-pub use laws::{open_one_opens_or_says_why, opens_or_says_why, restores_to_one};
+pub use faults::{CommitFault, OneFault};
+pub use laws::{open_one_opens_or_says_why, opens_or_says_why};
+pub use restore_trim::OpenFault;
 pub use units::{LaneState, Mark, OneUnit};

@@ -6,16 +6,16 @@ ghost use Rattle.samza_model.specs.Checkpoint.{Spells, IsWellFormed};
 ghost use Rattle.samza_model.specs.Limits.{IsWithinLimits};
 ghost use Rattle.samza_model.specs.Restored.{IsNamed, next_at, count_at};
 ghost use Rattle.log_frame.specs.Frame.{IsFrame};
-ghost use Rattle.task_unit.specs.Naming.{mark_names, setup_names};
+ghost use Rattle.restore_trim.specs.Naming.{mark_names, setup_names};
 ghost use Rattle.task_unit.specs.Planned.{PlansStore, PlansStores, PlansSends};
 
 use crate::lists::put;
-use crate::naming::topic_name;
 use crate::room::count_behind;
-use crate::sends::Sends;
 use checkpoint_log::encode_checkpoint;
 use kv_store::TrackedTable;
 use log_frame::{Frame, encode, frames_of};
+use output_log::Outputs;
+use restore_trim::topic_name;
 use samza_model::{Checkpoint, InputMark, Items, NoMemory, Plain, Setup, StoreMark, StoreSetup};
 use std::alloc::Global;
 use topic_log::Log;
@@ -63,12 +63,13 @@ pub(crate) fn plan_stores(
 }
 
 /// The frames of what each output was sent, of at most 500 records each.
-pub(crate) fn plan_sends(alloc: Global, unsent: &[Sends]) -> Result<Vec<Items<Frame>>, NoMemory>
-    ensures { IfOk result (λ r. PlansSends unsent.now r.items) }
+pub(crate) fn plan_sends(alloc: Global, outputs: &Outputs) -> Result<Vec<Items<Frame>>, NoMemory>
+    ensures { IfOk result (λ r. PlansSends outputs.now.unsent r.items) }
 {
     let mut frames = Vec::new(alloc);
-    for sends in unsent {
-        frames.push(Items::from_vec(frames_of(alloc, sends.as_slice(), 500)?))?;
+    for output in 0..outputs.count() {
+        let more = outputs.frames(alloc, output)?;
+        put(&mut frames, Items::from_vec(more))?;
     }
     Ok(frames)
 }

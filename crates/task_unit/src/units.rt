@@ -9,14 +9,15 @@ ghost use Rattle.samza_model.specs.Files.{Image};
 ghost use Rattle.samza_model.specs.Logs.{HasLog};
 ghost use Rattle.samza_model.specs.Restored.{Restores, id_of, next_at, start_of};
 ghost use Rattle.disk_model.specs.Images.{LeavesOnly};
+ghost use Rattle.restore_trim.specs.Crashes.{OpeningLeaves};
+ghost use Rattle.restore_trim.specs.Refused.{StoresOpen};
+ghost use Rattle.restore_trim.specs.Standing.{OthersStay};
 ghost use Rattle.task_unit.specs.Growth.{PassesLimit};
-ghost use Rattle.task_unit.specs.Refused.{CountsHold};
-ghost use Rattle.task_unit.specs.Standing.{OthersStay};
-ghost use Rattle.task_unit.specs.Units.{IsSetUp, LogsStay, IsCommitted, CommitLeaves, Counts, appended_at, IsProcessed, IsFailed, NothingUnsent, NothingUnlogged, OpeningLeaves, input_of, WhyNotOpened};
+ghost use Rattle.task_unit.specs.Units.{IsSetUp, LogsStay, IsCommitted, CommitLeaves, Counts, appended_at, IsProcessed, IsFailed, NothingUnsent, NothingUnlogged, AreWhole, input_of, WhyNotOpened};
 
 use crate::acting::Holdings;
 use crate::beginning::{envelope_at, start};
-use crate::committing::{clear_all, count_all, flush_all, plan_commit};
+use crate::committing::{flush_all, plan_commit};
 use crate::writing::Logs;
 use crate::{CommitFault, OneFault, OpenFault};
 use disk_model::{Disk, Shelf};
@@ -57,7 +58,6 @@ pub struct OneUnit<'j, J: Job, D: Disk, S: Shelf> {
     messages: Vec<Record>,
     begun: u64,
     next: u64,
-    appended: Vec<u64>,
     broken: bool,
 }
 
@@ -71,13 +71,14 @@ impl<'j, J: Job, D: Disk, S: Shelf> Model for OneUnit<'j, J, D, S> {
 
     ghost coded = { Prim.hlevel (codes, content_code) };
 
-    ghost view = { λ u. record { job = J.plain u.job.now; setup = u.setup; disk = u.disk; shelf = u.shelf; messages = u.messages.items; begun = u.begun; next = u.next; state = state_of (held u.holdings); unlogged = unlogged_of (held u.holdings).stores; appended = u.appended.items; mark = u.mark; broken = u.broken } };
+    ghost view = { λ u. record { job = J.plain u.job.now; setup = u.setup; disk = u.disk; shelf = u.shelf; messages = u.messages.items; begun = u.begun; next = u.next; state = state_of (held u.holdings); unlogged = unlogged_of (held u.holdings).stores; appended = (held u.holdings).cleared; mark = u.mark; broken = u.broken } };
 
-    ghost invariant = { λ u. IsUnit D.tells D.reads D.images u.setup u.disk u.logs u.mark u.holdings u.messages.items u.begun u.next u.appended.items u.broken };
+    ghost invariant = { λ u. IsUnit D.tells D.reads D.images u.setup u.disk u.logs u.mark u.holdings u.messages.items u.begun u.next u.broken };
 }
 
 impl<'j, J: Job, D: Disk, S: Shelf> OneUnit<'j, J, D, S> {
     /// Opens a task: restores it from its files, reads its input, and stands at the input's first uncovered message.
+    /// Records of a changelog behind those that the checkpoint counts are taken back by others behind them.
     /// After a refusal the disk and the shelf come back.
     pub fn open_one(
         alloc: Global,
@@ -94,7 +95,10 @@ impl<'j, J: Job, D: Disk, S: Shelf> OneUnit<'j, J, D, S> {
         ensures none_appended { IfOk result (λ u. (j : ℕ) → j < length setup.outputs → appended_at u.appended j ≡ 0) }
         ensures messages { IfOk result (λ u. S.tells → HasLog (S.bytes shelf) u.messages) }
         ensures start { IfOk result (λ u. (u.next ≡ start_of (next_at u.mark 0) (input_of setup) (record { first = 0; records = u.messages })) × (u.begun ≡ u.next)) }
-        ensures logs_stay { IfOk result (λ u. D.tells → LogsStay setup (D.reads disk) (D.reads u.disk)) }
+        // The logs are as they were, but for what takes the records behind those that the checkpoint counts back.
+        ensures logs_stay { IfOk result (λ u. D.tells → LogsStay setup u.mark (D.reads disk) (D.reads u.disk)) }
+        // All records of each changelog make its store's content.
+        ensures whole { IfOk result (λ u. D.tells → AreWhole setup (D.reads u.disk) u.state.stores) }
         // The files that are none of the task's are as before.
         ensures others { IfOk result (λ u. D.tells → OthersStay (length setup.stores) (length setup.outputs) (D.reads disk) (D.reads u.disk)) }
         // After Ok every image restores as the unit did.
@@ -103,7 +107,7 @@ impl<'j, J: Job, D: Disk, S: Shelf> OneUnit<'j, J, D, S> {
         ensures any_moment { IfOk result (λ u. D.tells → LeavesOnly D.call_number D.images D.images_since disk u.disk (OpeningLeaves setup)) }
         ensures back_any_moment { IfErr result (λ e. D.tells → LeavesOnly D.call_number D.images D.images_since disk e.1 (OpeningLeaves setup)) }
         ensures within { IfOk result (λ u. u.next ≤ length u.messages) }
-        ensures counts { IfOk result (λ u. D.tells → CountsHold (D.reads disk) u.mark (length setup.stores)) }
+        ensures opens { IfOk result (λ u. D.tells → StoresOpen (D.reads disk) u.mark (length setup.stores)) }
         ensures given { IfOk result (λ u. (u.job ≡ J.plain job.now) × (u.setup ≡ setup) × (u.broken ≡ false)) }
         ensures disk { IfOk result (λ u. (D.name u.disk ≡ D.name disk) × (D.fault_count disk ≤ D.fault_count u.disk)) }
         ensures shelf { IfOk result (λ u. (S.name u.shelf ≡ S.name shelf) × (S.file u.shelf ≡ S.file shelf) × (S.fault_count shelf ≤ S.fault_count u.shelf)) }
@@ -127,7 +131,6 @@ impl<'j, J: Job, D: Disk, S: Shelf> OneUnit<'j, J, D, S> {
                 messages: started.messages,
                 begun: started.next,
                 next: started.next,
-                appended: started.appended,
                 broken: false,
             }),
             Err(fault) => Err((fault, disk, shelf)),
@@ -222,9 +225,8 @@ impl<'j, J: Job, D: Disk, S: Shelf> OneUnit<'j, J, D, S> {
             Ok(()) => {}
             Err(fault) => return Err(fault),
         }
-        count_all(&mut self.appended, self.holdings.unsent.as_slice());
         flush_all(&mut self.holdings.stores);
-        clear_all(&mut self.holdings.unsent);
+        self.holdings.outputs.clear();
         let mark = Mark { id: made.id };
         self.mark = Some(made);
         self.broken = false;
@@ -257,8 +259,7 @@ impl<'j, J: Job, D: Disk, S: Shelf> OneUnit<'j, J, D, S> {
         requires { output < length self.now.setup.outputs }
         ensures { result ≡ appended_at self.now.appended output + length (sent_at self.now.state.sent output) }
     {
-        let unsent = self.holdings.unsent[output as usize].as_slice().len() as u64;
-        self.appended[output as usize] + unsent
+        self.holdings.outputs.sent(output)
     }
 
     /// The setup that the unit was given.

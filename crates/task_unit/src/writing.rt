@@ -8,9 +8,9 @@ ghost use Rattle.samza_model.specs.Files.{checkpoint_file};
 ghost use Rattle.topic_log.specs.declared.logs.Log.{Log as LogValue};
 ghost use Rattle.topic_log.specs.Opened.{file_of, is_broken, IsOpen, Appends};
 ghost use Rattle.task_unit.specs.Crashes.{TaskFrames, PlanRecords, StandWith, IsPlanOf, WriteLeaves};
-ghost use Rattle.task_unit.specs.Standing.{IsOpenAt, OthersStay};
+ghost use Rattle.restore_trim.specs.Standing.{IsOpenAt, OthersStay};
 ghost use Rattle.task_unit.specs.Written.{AreSound, StandOpen, IsPlanFor, IsRoomFor, IsNoRoomFor, MarksAppended, Follows};
-ghost use Rattle.task_unit.specs.Room.{HasRoom, HaveGrown};
+ghost use Rattle.task_unit.specs.Room.{HasRoom};
 
 use crate::CommitFault;
 use crate::appending::append_each;
@@ -87,7 +87,6 @@ impl Logs {
         // A crash at any moment leaves the checkpoint file as it was, or all of the plan.
         ensures any_moment { D.tells → (had : TaskFrames) (more : PlanRecords) → StandWith (D.reads disk.old) (D.images disk.old) self.old had → IsPlanOf self.old plan.now more
             → LeavesOnly D.call_number D.images D.images_since disk.old disk.new (WriteLeaves (length self.old.changelogs.items) (length self.old.outputs.items) had more) }
-        ensures grown { OnOk result (HaveGrown self.old.outputs.items self.new.outputs.items plan.now.sends.items) }
         ensures changelogs { length self.new.changelogs.items ≡ length self.old.changelogs.items }
         ensures outputs { length self.new.outputs.items ≡ length self.old.outputs.items }
         ensures others { OnOk result (D.tells → OthersStay (length self.old.changelogs.items) (length self.old.outputs.items) (D.reads disk.old) (D.reads disk.new)) }

@@ -1,9 +1,7 @@
-use Rattle.std.proofs.Common.{List, rules, ◌≡◌, [], get_or, length, ◌+◌, refl, arith, sym, ◌∙◌, ap, subst}
+use Rattle.std.proofs.Common.{List, rules, ◌≡◌, [], get_or, length, refl, arith, sym, ◌∙◌, subst}
 use Rattle.std.proofs.lemmas.List.{get_or_read_under}
 use Rattle.log_frame.specs.Frame.{FrameView, AreFrames}
 use Rattle.topic_log.specs.declared.logs.Log.{Log}
-use Rattle.topic_log.specs.Opened.{size_of}
-use Rattle.topic_log.specs.Steps.{closed_frames}
 use Rattle.task_unit.proofs.Appended.{open_next, appended_step}
 use Rattle.task_unit.proofs.Moments.{none_left, left_step}
 use Rattle.task_unit.proofs.appending.append_each.Goals as goal
@@ -28,7 +26,6 @@ loop-i-preserved g c =
     sym (c.as_slice.ensures ∙ get_or_read_under c.args.frames.now c.loop-i.i (length c.args.frames.now) c.index-frames-i.result [] c.index-frames-i.is (omega arith) refl) in (
       appended_step disk.tells disk.reads disk.images c.args.disk.now c.loop-i.disk c.args.logs.now.items logs c.args.frames.now c.loop-i.i log
           c.loop-i.invariant.0 (omega arith) here c.append_all.new.disk c.append_all.new.self c.append_all.ensures.file c.in-Ok.ensures.sound
-          (c.in-Ok.ensures.grown ∙ ap (λ (x : List FrameView). size_of log + length (closed_frames x)) (sym at))
           (λ told before lists o these. c.in-Ok.ensures.appended told before lists o (subst (λ (x : List FrameView). AreFrames x lists) at these))
           c.append_all.ensures.others c.in-Ok.ensures.elsewhere,
       left_step disk.tells disk.reads disk.call_number disk.images disk.images_since c.args.disk.now c.loop-i.disk c.append_all.new.disk c.args.logs.now.items logs c.args.frames.now c.loop-i.i log
@@ -62,6 +59,3 @@ returns-in-Err-Device-clause-any_moment g c told first had more opens are =
 pub returns-clause-appended : goal.returns-clause-appended
 returns-clause-appended g c told first are i d before lists lt o these =
     c.loop-i.invariant.0.done told first are i d before lists (omega (arith, lt)) lt o these
-
-pub returns-clause-grown : goal.returns-clause-grown
-returns-clause-grown g c = λ i d lt. c.loop-i.invariant.0.grown i d (omega (arith, lt)) lt

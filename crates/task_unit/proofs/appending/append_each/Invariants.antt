@@ -1,6 +1,5 @@
-use Rattle.task_unit.proofs.Appended.{AppendedSoFar}
+use Rattle.task_unit.proofs.Appended.{AppendedSoFar, Goes}
 use Rattle.task_unit.proofs.Moments.{LeftSoFar}
-use Rattle.task_unit.proofs.SoFar.{Goes}
 use Rattle.task_unit.proofs.appending.append_each.Given as goal
 
 abbrev pub invariant-loop-i : goal.invariant-loop-i

@@ -7,7 +7,7 @@ use Rattle.kv_store.specs.Tracked.{Tracked, no_keys}
 use Rattle.log_frame.specs.Frame.{FrameView}
 use Rattle.topic_log.specs.declared.logs.Log.{Log}
 use Rattle.task_unit.specs.Held.{tracked_at}
-use Rattle.task_unit.specs.Naming.{mark_names, setup_names}
+use Rattle.restore_trim.specs.Naming.{mark_names, setup_names}
 use Rattle.task_unit.specs.Planned.{PlansStore}
 use Rattle.task_unit.proofs.PlansSoFar.{each_more}
 use Rattle.task_unit.proofs.planning.plan_stores.Goals as goal

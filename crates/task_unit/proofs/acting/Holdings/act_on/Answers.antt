@@ -42,6 +42,7 @@ loop-made-preserved g c =
       λ first leads. c.make.ensures.back first (c.loop-made.invariant.2 first leads),
       λ i k agrees. c.make.ensures.clean i k (c.loop-made.invariant.3 i k agrees),
       c.make.ensures.sized,
+      c.make.ensures.counts ∙ c.loop-made.invariant.5,
     )
 
 pub returns-in-GoesOn-course_at-clause-ran : goal.returns-in-GoesOn-course_at-clause-ran

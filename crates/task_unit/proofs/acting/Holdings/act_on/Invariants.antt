@@ -12,4 +12,4 @@ invariant-loop-made g l =
     ≡ run_on (g.J.Job.meaning (g.J.Job.plain l.job)) l.setup l.envelope 1023 (state_of (held l.fn.self)) [])
     × LeadsOn (held l.fn.self) (held l.self) (acts_on (g.J.Job.meaning (g.J.Job.plain l.job)) l.setup l.envelope (1023 - l._made) (state_of (held l.self)) l.answers.items)
     (acts_on (g.J.Job.meaning (g.J.Job.plain l.job)) l.setup l.envelope 1023 (state_of (held l.fn.self)) [])
-    × GoesBack l.fn.self l.self × KeepsClean (held l.fn.self) (held l.self) × IsSized l.setup (held l.self)
+    × GoesBack l.fn.self l.self × KeepsClean (held l.fn.self) (held l.self) × IsSized l.setup (held l.self) × ((held l.self).cleared ≡ (held l.fn.self).cleared)

@@ -1,4 +1,4 @@
-use Rattle.std.proofs.Common.{◌≡◌, sym, subst, refl, List, [], reverse}
+use Rattle.std.proofs.Common.{◌≡◌, ap, sym, subst, refl, List, [], reverse}
 use Rattle.task_unit.specs.declared.acting.Undone.{Undone}
 use Rattle.task_unit.specs.Acting.{held, undos_of, IsSized, GoesBack}
 use Rattle.task_unit.specs.declared.acting.Holdings.{Holdings}
@@ -37,3 +37,11 @@ returns-in-Err-clause-clean g c =
 pub returns-in-Err-clause-sized : goal.returns-in-Err-clause-sized
 returns-in-Err-clause-sized g c =
     subst (λ (h : Held). IsSized c.args.setup.now h) (sym (c.take_back-in-Err.ensures.held (held c.args.self.now) (leads_back c.args.self.now c.act_on.new.self c.requires.idle c.act_on.ensures.back))) c.requires.sized
+
+pub returns-in-Ok-Some-clause-counts : goal.returns-in-Ok-Some-clause-counts
+returns-in-Ok-Some-clause-counts g c =
+    ap (λ (h : Held). h.cleared) (c.take_back.ensures.held (held c.args.self.now) (leads_back c.args.self.now c.act_on.new.self c.requires.idle c.act_on.ensures.back))
+
+pub returns-in-Err-clause-counts : goal.returns-in-Err-clause-counts
+returns-in-Err-clause-counts g c =
+    ap (λ (h : Held). h.cleared) (c.take_back-in-Err.ensures.held (held c.args.self.now) (leads_back c.args.self.now c.act_on.new.self c.requires.idle c.act_on.ensures.back))

@@ -1,11 +1,9 @@
-use Rattle.std.proofs.Common.{ℕ, ◌≡◌, ◌<◌, ◌+◌, ◌^◌, ◌∙◌, List, ap, arith, inl, length, refl, sym, subst}
+use Rattle.std.proofs.Common.{◌<◌, ◌∙◌, ap, inl, length, refl, sym, subst}
 use Rattle.task_unit.specs.Acting.{held, IsSized}
 use Rattle.task_unit.specs.Held.{Held, state_of}
 use Rattle.task_unit.specs.Crashes.{WriteLeaves}
-use Rattle.task_unit.specs.Standing.{OthersStay}
-use Rattle.task_unit.specs.Units.{IsCommitted, CommitLeaves, appended_at}
-use Rattle.samza_model.specs.declared.messages.Record.{Record}
-use Rattle.samza_model.specs.Content.{sent_at}
+use Rattle.restore_trim.specs.Standing.{OthersStay}
+use Rattle.task_unit.specs.Units.{IsCommitted, CommitLeaves}
 use Rattle.samza_model.specs.Files.{Image}
 use Rattle.samza_model.specs.Restored.{Restores}
 use Rattle.disk_model.specs.Images.{LeavesOnly}
@@ -15,7 +13,6 @@ use Rattle.task_unit.proofs.Survived.{unwritten_restores, task_grows, stand_with
 use Rattle.task_unit.specs.Growth.{PassesLimit}
 use Rattle.task_unit.proofs.Growing.{passes_limit, within_limit}
 use Rattle.task_unit.proofs.Flushed.{none_unlogged}
-use Rattle.task_unit.proofs.Counting.{counts_few, counts_within, sum_few}
 use Rattle.task_unit.proofs.units.OneUnit.commit.Goals as goal
 
 pub write-requires-clause-open : goal.write-requires-clause-open
@@ -23,16 +20,6 @@ write-requires-clause-open g c κs within = λ told.
     let u = c.self.inside in
     let disk = g.D.Disk in
     stand_open u.setup (disk.reads u.disk) (disk.images u.disk) u.logs u.mark (held u.holdings) (c.self.invariant.stands c.if-self.false told) c.self.invariant.changelogs_are
-
-pub count_all-requires-clause-few : goal.count_all-requires-clause-few
-count_all-requires-clause-few g c j lt =
-    let u = c.self.inside in
-    let inv = c.self.invariant in
-    let plan = c.in_ok-plan.plan in
-    let room = c.has_room.ensures.room c.if-not-has_room.false in
-    let as_many : length (held u.holdings).unsent ≡ length u.logs.outputs.items = inv.sized.outputs ∙ sym inv.outputs_are in
-    let few = sum_few u.logs plan (held u.holdings).unsent u.appended.items c.in_ok-plan.ensures.sends room as_many (inv.appended_within c.if-self.false) in
-    subst (λ (us : List (List Record)). (j : ℕ) → j < length us → appended_at u.appended.items j + length (sent_at us j) < 2 ^ 64) (sym c.as_slice.ensures.value) (λ k below. let one = few k below in omega (arith, one)) j lt
 
 pub invariant_of-self-2 : goal.invariant_of-self-2
 invariant_of-self-2 g c =
@@ -44,12 +31,9 @@ invariant_of-self-2 g c =
     let p = c.in_ok-plan.ensures in
     let room = c.has_room.ensures.room c.if-not-has_room.false in
     let w = c.in-Ok.ensures in
-    let held' : Held = record { stores = c.flush_all.new.stores.items; unsent = c.clear_all.new.unsent.items } in
-    let as_many : length (held u.holdings).unsent ≡ length u.logs.outputs.items = inv.sized.outputs ∙ sym inv.outputs_are in
-    let within = inv.appended_within c.if-self.false in
-    let counted : (j : ℕ) → j < length (held u.holdings).unsent → appended_at c.count_all.new.appended.items j ≡ appended_at u.appended.items j + length (sent_at (held u.holdings).unsent j) =
-    subst (λ (us : List (List Record)). (j : ℕ) → j < length us → appended_at c.count_all.new.appended.items j ≡ appended_at u.appended.items j + length (sent_at us j)) c.as_slice.ensures.value c.count_all.ensures.counted in
-    let sized' : IsSized u.setup held' = record { stores = c.flush_all.ensures.as_many ∙ inv.sized.stores; outputs = c.clear_all.ensures.as_many ∙ inv.sized.outputs } in
+    let outputs' = c.clear.new.self in
+    let held' : Held = record { stores = c.flush_all.new.stores.items; unsent = outputs'.unsent; cleared = outputs'.cleared } in
+    let sized' : IsSized u.setup held' = record { stores = c.flush_all.ensures.as_many ∙ inv.sized.stores; outputs = c.clear.ensures.cleared.as_many ∙ inv.sized.outputs } in
     record {
       set_up = inv.set_up;
       sized = sized';
@@ -59,9 +43,6 @@ invariant_of-self-2 g c =
       begins = inv.begins;
       within = inv.within;
       sound = λ _. w.sound;
-      appended_are = c.count_all.ensures.as_many ∙ inv.appended_are;
-      few_appended = counts_few u.logs plan (held u.holdings).unsent u.appended.items p.sends room as_many within c.count_all.new.appended.items counted (c.count_all.ensures.as_many ∙ inv.appended_are ∙ sym inv.sized.outputs);
-      appended_within = λ _. counts_within u.logs plan (held u.holdings).unsent u.appended.items p.sends room as_many within c.count_all.new.appended.items counted c.write.new.self.outputs.items w.outputs w.grown;
       stands = λ _ told. stands_made u.setup (disk.reads u.disk) (disk.reads c.write.new.disk) (disk.images u.disk) (disk.images c.write.new.disk) u.logs c.write.new.self plan u.mark made (held u.holdings)
           (inv.stands c.if-self.false told) (w.follows told) room p.stores p.sends p.frame p.named p.id inv.changelogs_are inv.outputs_are w.outputs inv.sized
           held' sized' c.flush_all.ensures.contents;

@@ -25,9 +25,6 @@ invariant_of-self g c =
       begins = omega (arith, inv.begins);
       within = omega (arith, below, c.as_slice.ensures.len, inv.within);
       sound = inv.sound;
-      appended_are = inv.appended_are;
-      few_appended = inv.few_appended;
-      appended_within = inv.appended_within;
       stands = λ b told. stands_kept (disk.reads u.disk) (disk.images u.disk) u.setup u.logs u.mark (held u.holdings) (held c.process.new.self) (inv.stands b told) c.in-Ok-None.ensures.clean;
     }
 

@@ -1,0 +1,12 @@
+-- Why a task's input isn't read.
+use Rattle.std.specs.Prelude.{ℕ, ◌≡◌, List, Some}
+use Rattle.restore_trim.specs.declared.faults.OpenFault.{OpenFault}
+use Rattle.restore_trim.specs.declared.faults.OpenFault.TheVariants.{Device, Damaged, NoMemory}
+use Rattle.restore_trim.specs.Refused.{IsNoLogAt}
+
+-- the input isn't read: the device, want of memory, or its partition's file is no log
+abbrev pub WhyNoInput : Type 0 → List ℕ → ℕ → OpenFault → Type 0
+WhyNoInput tells bytes partition Device = Unit {0}
+WhyNoInput tells bytes partition (Damaged input file at) = (input ≡ Some 0) × (file ≡ partition) × (tells → IsNoLogAt bytes at)
+WhyNoInput tells bytes partition NoMemory = Unit {0}
+WhyNoInput tells bytes partition e = ⊥
