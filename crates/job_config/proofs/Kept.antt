@@ -25,7 +25,8 @@ use Rattle.job_config.specs.Stores.{store_of, is_misnamed, is_no_store_name, unl
 use Rattle.job_config.specs.Streams.{system_of, stream_of, new_stream, stream_row, input_of, stream_rows}
 use Rattle.job_config.specs.Lists.{in_order}
 use Rattle.job_config.specs.Asking.{Fault, Asks, ◌>>=◌, gives, row, each, unless}
-use Rattle.job_config.specs.Bounds.{AreStores, IsStore, input_name}
+use Rattle.job_config.specs.Bounds.{AreRising, AreStores, IsStore, input_name, store_name}
+use Rattle.job_config.proofs.Rising.{in_order_rises}
 use Rattle.job_config.proofs.Topics.{each_in_order}
 use Rattle.job_config.proofs.Yields.{through, row_gave, unless_gave, each_all, each_keeps}
 use Rattle.job_config.proofs.Spelled.{and_right}
@@ -65,6 +66,29 @@ store_stays p BatchSize s asked r store is =
     subst (λ (z : StoreSetup × List (List ℕ)). IsStore z.0) same
     (record { name = store.name; batch = size_bounds s.batch 4096 (map_of.get p (store_key BatchSize s.name)) k.0.0 store.batch (row_gave p (store_key BatchSize s.name) (size s.batch 4096) asked k.0 k.1) })
 
+-- a row of a store leaves it its name
+store_named : (p : Props) (setting : StoreSetting) (s : StoreSetup) (asked : List (List ℕ)) (r : StoreSetup × List (List ℕ)) → store_row p setting s asked ≡ Ok r → store_name r.0 ≡ store_name s
+unfolding store_row
+store_named p Factory s asked r is =
+    let k = through (row p (store_key Factory s.name) any_text asked) (λ _. gives s) r is in
+    let same : (s, k.0.1) ≡ r = cc k.2 in
+    sym (ap (λ (z : StoreSetup × List (List ℕ)). store_name z.0) same)
+store_named p Changelog s asked r is =
+    let k = through (row p (store_key Changelog s.name) some_text asked) (λ _. gives s) r is in
+    let same : (s, k.0.1) ≡ r = cc k.2 in
+    sym (ap (λ (z : StoreSetup × List (List ℕ)). store_name z.0) same)
+store_named p CacheSize s asked r is =
+    let k = through (row p (store_key CacheSize s.name) (size s.cache 1000000) asked) (λ cache. gives (record s { cache = cache })) r is in
+    let same : (record s { cache = k.0.0 }, k.0.1) ≡ r = cc k.2 in
+    sym (ap (λ (z : StoreSetup × List (List ℕ)). store_name z.0) same)
+store_named p BatchSize s asked r is =
+    let k = through (row p (store_key BatchSize s.name) (size s.batch 4096) asked) (λ batch. gives (record s { batch = batch })) r is in
+    let same : (record s { batch = k.0.0 }, k.0.1) ≡ r = cc k.2 in
+    sym (ap (λ (z : StoreSetup × List (List ℕ)). store_name z.0) same)
+
+rows_named : (p : Props) (setting : StoreSetting) (xs : List StoreSetup) (asked : List (List ℕ)) (r : List StoreSetup × List (List ℕ)) → each xs (store_row p setting) asked ≡ Ok r → map store_name r.0 ≡ map store_name xs
+rows_named p setting = each_keeps store_name store_name (store_row p setting) (store_named p setting)
+
 -- the names of stores are spelled as they must be
 abbrev IsSystem : List ℕ → Type 0
 IsSystem n = is_system n ≡ true
@@ -96,6 +120,20 @@ names_named p names is = by (find is_misnamed (map_of.keys p)) refl is
         subst (AllByRecursion IsSystem) same (each_in_order IsSystem (filter_map store_of (map_of.keys p)) [] (all_named (map_of.keys p) none) tt)
     by (Some key) bad is' = absurd cc
 
+names_rise : (p : Props) (names : List (List ℕ)) → store_names p ≡ Ok names → AreRising names
+unfolding store_names
+names_rise p names is = by (find is_misnamed (map_of.keys p)) is
+  where
+    by : (o : Option (List ℕ)) → unless_misnamed o (in_order (filter_map store_of (map_of.keys p))) ≡ Ok names → AreRising names
+    by None is' =
+        let same : in_order (filter_map store_of (map_of.keys p)) ≡ names = cc is' in
+        subst AreRising same (in_order_rises (filter_map store_of (map_of.keys p)))
+    by (Some key) is' = absurd cc
+
+new_named : (names : List (List ℕ)) → map store_name (map new_store names) ≡ names
+new_named [] = refl
+new_named (n ∷ ns) = ap (λ (xs : List (List ℕ)). n ∷ xs) (new_named ns)
+
 new_are : (names : List (List ℕ)) → AllByRecursion IsSystem names → AllByRecursion IsStore (map new_store names)
 new_are [] all = tt
 new_are (n ∷ ns) all = (record { name = all.0; batch = (omega arith, omega arith) }, new_are ns all.1)
@@ -110,6 +148,15 @@ counted_are (s ∷ ss) found all is = by (nat_le (length (s ∷ ss)) 8) refl is
         let same : s ∷ ss ≡ found = cc is' in
         subst AreStores same (record { some = omega arith; few = grind (arith, nat_tests, within); each = all })
     by false over is' = absurd cc
+
+counted_same : (stores found : List StoreSetup) → counted_stores stores ≡ Ok found → found ≡ stores
+unfolding counted_stores
+counted_same [] found is = absurd cc
+counted_same (s ∷ ss) found is = by (nat_le (length (s ∷ ss)) 8) is
+  where
+    by : (b : Bool) → cond {A = Result (List StoreSetup) Fault} b (Ok (s ∷ ss)) (Err (text_of Stores, OutOfRange)) ≡ Ok found → found ≡ s ∷ ss
+    by true is' = cc is'
+    by false is' = absurd cc
 
 -- the rows of the stores from each place on
 abbrev from_counted : Props → List StoreSetup → Asks (List StoreSetup)
@@ -139,6 +186,20 @@ stores_are p asked r is =
     let cached_are = each_all IsStore IsStore (store_row p CacheSize) (store_stays p CacheSize) counted.0.0 counted.0.1 cached.0 are.each cached.1 in
     let last_are = each_all IsStore IsStore (store_row p BatchSize) (store_stays p BatchSize) cached.0.0 cached.0.1 r cached_are.0 cached.2 in
     record { some = omega (arith, are.some, cached_are.1, last_are.1); few = omega (arith, are.few, cached_are.1, last_are.1); each = last_are.0 }
+
+-- the stores have the names of the keys, in order
+pub stores_rise : (p : Props) (asked : List (List ℕ)) (r : List StoreSetup × List (List ℕ)) → store_rows p asked ≡ Ok r → AreRising (map store_name r.0)
+unfolding store_rows
+stores_rise p asked r is =
+    let names = through (unless (store_names p) asked) (from_names p) r is in
+    let made = through (each (map new_store names.0.0) (store_row p Factory) names.0.1) (from_made p) r names.2 in
+    let kept = through (each made.0.0 (store_row p Changelog) made.0.1) (from_kept p) r made.2 in
+    let counted = through (unless (counted_stores kept.0.0) kept.0.1) (from_counted p) r kept.2 in
+    let cached = through (each counted.0.0 (store_row p CacheSize) counted.0.1) (λ cached. each cached (store_row p BatchSize)) r counted.2 in
+    let until_kept = rows_named p Changelog made.0.0 made.0.1 kept.0 kept.1 ∙ rows_named p Factory (map new_store names.0.0) names.0.1 made.0 made.1 ∙ new_named names.0.0 in
+    let same = counted_same kept.0.0 counted.0.0 (unless_gave (counted_stores kept.0.0) kept.0.1 counted.0 counted.1) in
+    let since_counted = rows_named p BatchSize cached.0.0 cached.0.1 r cached.2 ∙ rows_named p CacheSize counted.0.0 counted.0.1 cached.0 cached.1 in
+    subst AreRising (sym (since_counted ∙ ap (map store_name) same ∙ until_kept)) (names_rise p names.0.0 (unless_gave (store_names p) asked names.0 names.1))
 
 -- a stream as `system.stream`
 abbrev stream_name : Stream → List ℕ

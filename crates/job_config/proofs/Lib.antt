@@ -3,6 +3,7 @@ pub mod Entries
 pub mod Kept
 pub mod Once
 pub mod Places
+pub mod Rising
 pub mod Spelled
 pub mod StoreNames
 pub mod Topics

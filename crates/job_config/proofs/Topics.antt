@@ -15,7 +15,7 @@ module _ (P : List ℕ → Type 0) where
   abbrev Each : List (List ℕ) → Type 0
   Each = AllByRecursion P
 
-  each_insert : (names : List (List ℕ)) (name : List ℕ) → Each names → P name → Each (insert_key (slice_cmp nat_cmp) names name)
+  pub each_insert : (names : List (List ℕ)) (name : List ℕ) → Each names → P name → Each (insert_key (slice_cmp nat_cmp) names name)
   each_insert [] name all one = (one, tt)
   each_insert (x ∷ xs) name all one = by (slice_cmp nat_cmp name x) (each_insert xs name all.1 one)
     where
@@ -64,6 +64,23 @@ names_in_are order keeps most t found is = by (list_all is_topic (entries_of t))
     by : (b : Bool) → list_all is_topic (entries_of t) ≡ b → cond b (counted most (order (entries_of t))) (Err BadName) ≡ Ok found → AreTopics most found
     by true good is' = counted_are most (order (entries_of t)) found (keeps (entries_of t) (each_passes is_topic (entries_of t) good)) is'
     by false bad is' = absurd cc
+
+counted_same : (most : ℕ) (names found : List (List ℕ)) → counted most names ≡ Ok found → names ≡ found
+counted_same most [] found is = absurd cc
+counted_same most (n ∷ ns) found is = by (nat_le (length (n ∷ ns)) most) is
+  where
+    by : (b : Bool) → cond b (Ok (n ∷ ns)) (Err OutOfRange) ≡ Ok found → n ∷ ns ≡ found
+    by true is' = cc is'
+    by false is' = absurd cc
+
+-- what holds of names that are taken in this order holds of those of a list
+pub names_in_hold : (P : List (List ℕ) → Type 0) (order : List (List ℕ) → List (List ℕ)) → ((names : List (List ℕ)) → P (order names))
+    → (most : ℕ) (t : List ℕ) (found : List (List ℕ)) → names_in order most t ≡ Ok found → P found
+names_in_hold P order holds most t found is = by (list_all is_topic (entries_of t)) is
+  where
+    by : (b : Bool) → cond b (counted most (order (entries_of t))) (Err BadName) ≡ Ok found → P found
+    by true is' = subst P (counted_same most (order (entries_of t)) found is') (holds (entries_of t))
+    by false is' = absurd cc
 
 pub inputs_are : (most : ℕ) (t : Option (List ℕ)) (found : List (List ℕ)) → inputs most t ≡ Ok found → AreTopics most found
 unfolding inputs in_order
