@@ -10,10 +10,11 @@ use Rattle.samza_model.specs.Meaning.{Meaning}
 use Rattle.samza_model.specs.Restored.{next_at, start_of}
 use Rattle.shipped_jobs.specs.WordCount.{word_count}
 use Rattle.topic_log.proofs.Spelling.{log_unique}
-use Rattle.task_unit.specs.declared.faults.OpenFault.{OpenFault}
+use Rattle.restore_trim.specs.declared.faults.OpenFault.{OpenFault}
 use Rattle.task_unit.specs.Opens.{Opens}
-use Rattle.task_unit.specs.Units.{IsMessage, WhyNotOpened, input_of}
-use Rattle.task_unit.proofs.Exact.{restores_one, not_kept_shut}
+use Rattle.task_unit.specs.Units.{IsMessage, LogsStay, WhyNotOpened, input_of}
+use Rattle.restore_trim.proofs.Exact.{restores_one}
+use Rattle.task_unit.proofs.Exact.{not_kept_shut}
 use Rattle.task_unit.proofs.OneCause.{one_cause}
 use Rattle.samza_run.specs.declared.faults.RunFault.{RunFault}
 use Rattle.samza_run.specs.declared.faults.RunFault.TheVariants.{Words, NoText, TextLimit, BadEscape, BadKey, NotBuilt, NoPartition, Device, NotOpened, Failed, Limit, NoMemory}
@@ -74,7 +75,7 @@ module _ (job : Meaning) (s : Setup) (input : List ℕ) (before : Image) (mark :
     stores = r.stores;
     messages = messages;
     restored = r.restored;
-    counts = r.counts;
+    opens = r.opens;
     has_messages = r.has_messages;
     within = omega (arith, r.begins, r.within);
   }
@@ -99,7 +100,7 @@ module _ (job : Meaning) (s : Setup) (input : List ℕ) (before : Image) (mark :
       state f.why fails.failed.ended r.does
 
   -- where no file grew too large, none would
-  not_full : (state : State) (r : Reaches job s input before mark messages begun (length messages) state) → (FillsFrom job s before messages begun (fresh s r.stores) → ⊥) → Fills job s input before → ⊥
+  not_full : (state : State) (r : Reaches job s input before mark messages begun (length messages) state) → ((logs : Image) → LogsStay s mark before logs → FillsFrom job s logs messages begun (fresh s r.stores) → ⊥) → Fills job s input before → ⊥
   not_full state r room fills =
       let q = fills.reached in
       let one = restores_one s before fills.mark mark q.stores r.stores q.restored r.restored in
@@ -109,11 +110,12 @@ module _ (job : Meaning) (s : Setup) (input : List ℕ) (before : Image) (mark :
       ∙ ap (λ (m : Option Checkpoint). start_of (next_at m 0) (input_of s) (record { first = 0; records = fills.messages })) one.0
       ∙ ap (λ (ms : List Record). start_of (next_at mark 0) (input_of s) (record { first = 0; records = ms })) same
       ∙ sym r.begins in
-      let full : FillsFrom job s before fills.messages fills.begun (fresh s q.stores) =
+      let full : FillsFrom job s fills.logs fills.messages fills.begun (fresh s q.stores) =
       record { left = fills.state; does = q.does; unlogged = fills.unlogged; changes = fills.changes; passes = fills.passes } in
-      room (subst (λ (ms : List Record). FillsFrom job s before ms begun (fresh s r.stores)) same
-      (subst (λ (b : ℕ). FillsFrom job s before fills.messages b (fresh s r.stores)) first
-      (subst (λ (c : List Content). FillsFrom job s before fills.messages fills.begun (fresh s c)) one.1 full)))
+      room fills.logs (subst (λ (m : Option Checkpoint). LogsStay s m before fills.logs) one.0 fills.stay)
+      (subst (λ (ms : List Record). FillsFrom job s fills.logs ms begun (fresh s r.stores)) same
+      (subst (λ (b : ℕ). FillsFrom job s fills.logs fills.messages b (fresh s r.stores)) first
+      (subst (λ (c : List Content). FillsFrom job s fills.logs fills.messages fills.begun (fresh s c)) one.1 full)))
 
 not_shut : (s : Setup) (input : List ℕ) (before : Image) (o : OpenFault) → open_status o ≢ 4 → open_status o ≢ 8 → Opens s before input → WhyNotOpened (Unit {0}) (Unit {0}) s before input o → ⊥
 not_shut s input before o device memory opens why =

@@ -11,7 +11,8 @@ use Rattle.disk_model.specs.Handles.{SameAt, SameDisk}
 use Rattle.disk_model.specs.Images.{LeavesOnly}
 use Rattle.disk_model.proofs.Moments.{started, weaker, followed_from}
 use Rattle.disk_model.proofs.SameDisks.{same_at_trans, same_disk_refl}
-use Rattle.task_unit.specs.Units.{UnitValue, CommitLeaves, OpeningLeaves}
+use Rattle.restore_trim.specs.Crashes.{OpeningLeaves}
+use Rattle.task_unit.specs.Units.{UnitValue, CommitLeaves}
 use Rattle.samza_run.specs.Leaves.{FinishLeaves, LeavesAt, LeftInCommit, RunLeaves}
 use Rattle.samza_run.specs.Runs.{Advances, Does}
 

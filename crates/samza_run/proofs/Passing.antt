@@ -7,7 +7,8 @@ use Rattle.samza_model.specs.declared.setups.Setup.{Setup}
 use Rattle.samza_model.specs.Content.{State}
 use Rattle.samza_model.specs.Files.{Image, changelog_file}
 use Rattle.samza_model.specs.Meaning.{Meaning}
-use Rattle.task_unit.specs.Growth.{PassesBy, PassesLimit}
+use Rattle.restore_trim.specs.Growth.{PassesBy}
+use Rattle.task_unit.specs.Growth.{PassesLimit}
 use Rattle.task_unit.specs.Held.{unlogged_at}
 use Rattle.task_unit.specs.Planned.{batch_at}
 use Rattle.task_unit.specs.Units.{UnitValue, IsCommitted, IsProcessed, NothingUnlogged}

@@ -1,48 +1,112 @@
 -- A configuration of which all is built sets up a task that is opened.
-use Rattle.std.proofs.Common.{ℕ, ◌≡◌, ◌≤◌, Bool, true, false, cond, nat_lt, List, [], ◌∷◌, length, map, Option, Some, None, Result, Ok, Err, IfOk, sym, subst, ap, ◌∙◌, refl, arith}
+use Rattle.std.proofs.Common.{ℕ, ◌≡◌, ◌<◌, ◌≤◌, Bool, true, false, cond, nat_lt, List, [], ◌∷◌, length, map, Option, Some, None, Result, Ok, Err, IfOk, Ordering, sym, subst, ap, ◌∙◌, refl, arith}
 use Rattle.std.proofs.lemmas.Bool.Decides.{nat_tests}
 use Rattle.std.proofs.lemmas.List.{length-map}
 use Rattle.std.specs.List.{AllByRecursion}
+use Rattle.std.specs.List.Sorted.{IsStrictlySortedBy}
+use Rattle.std.specs.Ordering.{nat_cmp, is_lt, ordering_then}
 use Rattle.samza_model.specs.declared.checkpoints.Checkpoint.{Checkpoint}
 use Rattle.samza_model.specs.declared.checkpoints.InputMark.{InputMark}
 use Rattle.samza_model.specs.declared.checkpoints.StoreMark.{StoreMark}
 use Rattle.samza_model.specs.declared.setups.Setup.{Setup}
 use Rattle.samza_model.specs.declared.setups.StoreSetup.{StoreSetup}
-use Rattle.samza_model.specs.Checkpoint.{FitsInput, IsWellFormed, inputs_rise, stores_rise, are_distinct}
+use Rattle.samza_model.specs.Checkpoint.{FitsInput, IsWellFormed, inputs_rise, inputs_rise_behind, stores_rise, stores_rise_behind, are_distinct}
 use Rattle.samza_model.specs.Names.{is_topic, is_system}
 use Rattle.samza_model.specs.Restored.{IsNamed, marked_place, setup_place}
 use Rattle.job_config.specs.declared.config.InputConfig.{InputConfig}
 use Rattle.job_config.specs.declared.config.JobConfig.{JobConfig}
-use Rattle.job_config.specs.Bounds.{IsBounded, IsStore, input_name}
+use Rattle.job_config.specs.Bounds.{AreRising, IsBounded, IsStore, input_name, store_name}
 use Rattle.task_unit.specs.Units.{IsSetUp}
 use Rattle.samza_run.specs.NotBuilt.{first_not_built}
 use Rattle.samza_run.specs.SetUp.{input_setup, setup_of}
 
-one_of : {A B : Type 0} (f : A → B) (xs : List A) (b : B) → map f xs ≡ b ∷ [] → (x : A) × (xs ≡ x ∷ []) × (f x ≡ b)
-one_of f [] b is = absurd (cc is)
-one_of f (x ∷ []) b is = (x, refl, cc is)
-one_of f (x ∷ y ∷ xs) b is = absurd (omega (arith, ap length is))
+abbrev IsTopic : List ℕ → Type 0
+IsTopic n = is_topic n ≡ true
 
--- a list of one
-only : {A : Type 0} (xs : List A) → 1 ≤ length xs → length xs ≤ 1 → (x : A) × (xs ≡ x ∷ [])
-only [] some few = absurd (omega (arith, some))
-only (x ∷ []) some few = (x, refl)
-only (x ∷ y ∷ xs) some few = absurd (omega (arith, few))
+abbrev IsSystem : List ℕ → Type 0
+IsSystem n = is_system n ≡ true
 
-module _ (k : Checkpoint) (stream : List ℕ) (topic : is_topic stream ≡ true) (i : InputMark) (inputs : k.inputs ≡ i ∷ []) (place : marked_place i ≡ (stream, 0))
-    (store : List ℕ) (system : is_system store ≡ true) (m : StoreMark) (stores : k.stores ≡ m ∷ []) (name : m.name ≡ store)
-    (output : List ℕ) (sent : is_topic output ≡ true) (outputs : k.outputs ≡ output ∷ []) where
-  well_formed : IsWellFormed k
-  well_formed = record {
-    few_inputs = omega (arith, ap length inputs);
-    few_stores = omega (arith, ap length stores);
-    few_outputs = omega (arith, ap length outputs);
-    each_input = subst (λ l. AllByRecursion FitsInput l) (sym inputs) (record { name = ap (λ (p : List ℕ × ℕ). is_topic p.0) place ∙ topic; partition = omega (arith, ap (λ (p : List ℕ × ℕ). p.1) place) }, tt);
-    each_store = subst (λ l. AllByRecursion (λ (s : StoreMark). is_system s.name ≡ true) l) (sym stores) (ap is_system name ∙ system, tt);
-    each_output = subst (λ l. AllByRecursion (λ (o : List ℕ). is_topic o ≡ true) l) (sym outputs) (sent, tt);
-    inputs_rise = ap inputs_rise inputs;
-    stores_rise = ap stores_rise stores;
-    outputs_distinct = ap are_distinct outputs;
+-- an input by its name and partition, and its name
+abbrev Place : Type 0
+Place = List ℕ × ℕ
+
+abbrev name_of : Place → List ℕ
+name_of p = p.0
+
+abbrev FitsPlace : Place → Type 0
+FitsPlace p = IsTopic p.0 × (p.1 < 256)
+
+-- the places of inputs, and of marks that have them
+places_fit : (inputs : List InputConfig) → AllByRecursion IsTopic (map input_name inputs) → AllByRecursion FitsPlace (map setup_place (map input_setup inputs))
+places_fit [] all = tt
+places_fit (i ∷ more) all = ((all.0, omega arith), places_fit more all.1)
+
+marks_fit : (marks : List InputMark) → AllByRecursion FitsPlace (map marked_place marks) → AllByRecursion FitsInput marks
+marks_fit [] all = tt
+marks_fit (i ∷ more) all = (record { name = all.0.0; partition = all.0.1 }, marks_fit more all.1)
+
+named_places : (inputs : List InputConfig) → map name_of (map setup_place (map input_setup inputs)) ≡ map input_name inputs
+named_places [] = refl
+named_places (i ∷ more) = ap (λ (names : List (List ℕ)). input_name i ∷ names) (named_places more)
+
+-- marks whose names rise
+inputs_rise_from : (last : InputMark) (marks : List InputMark) → AreRising (map name_of (map marked_place (last ∷ marks))) → inputs_rise_behind last marks ≡ true
+unfolding IsStrictlySortedBy
+inputs_rise_from last [] rise = refl
+inputs_rise_from last (x ∷ xs) rise =
+    ap (λ (o : Ordering). cond (is_lt (ordering_then o (nat_cmp last.partition x.partition))) (inputs_rise_behind x xs) false) rise.0.0 ∙ inputs_rise_from x xs rise.1
+
+inputs_rise_by : (marks : List InputMark) → AreRising (map name_of (map marked_place marks)) → inputs_rise marks ≡ true
+inputs_rise_by [] rise = refl
+inputs_rise_by (x ∷ xs) rise = inputs_rise_from x xs rise
+
+abbrev mark_name : StoreMark → List ℕ
+mark_name m = m.name
+
+stores_rise_from : (last : StoreMark) (marks : List StoreMark) → AreRising (map mark_name (last ∷ marks)) → stores_rise_behind last marks ≡ true
+unfolding IsStrictlySortedBy
+stores_rise_from last [] rise = refl
+stores_rise_from last (x ∷ xs) rise = ap (λ (o : Ordering). cond (is_lt o) (stores_rise_behind x xs) false) rise.0.0 ∙ stores_rise_from x xs rise.1
+
+stores_rise_by : (marks : List StoreMark) → AreRising (map mark_name marks) → stores_rise marks ≡ true
+stores_rise_by [] rise = refl
+stores_rise_by (x ∷ xs) rise = stores_rise_from x xs rise
+
+-- stores' names, and marks that have them
+names_spelled : (stores : List StoreSetup) → AllByRecursion IsStore stores → AllByRecursion IsSystem (map store_name stores)
+names_spelled [] all = tt
+names_spelled (t ∷ more) all = (all.0.name, names_spelled more all.1)
+
+marks_spelled : (marks : List StoreMark) → AllByRecursion IsSystem (map mark_name marks) → AllByRecursion (λ m. IsSystem m.name) marks
+marks_spelled [] all = tt
+marks_spelled (m ∷ more) all = (all.0, marks_spelled more all.1)
+
+batched : (stores : List StoreSetup) → AllByRecursion IsStore stores → AllByRecursion (λ t. (1 ≤ t.batch) × (t.batch ≤ 4096)) stores
+batched [] all = tt
+batched (t ∷ more) all = (all.0.batch, batched more all.1)
+
+-- a checkpoint with a configuration's names has a spelling
+module _ (c : JobConfig) (bounded : IsBounded c) (k : Checkpoint) (named : IsNamed (setup_of c) k) where
+  as_many_inputs : length k.inputs ≡ length (map input_name c.inputs)
+  as_many_inputs = omega (arith, length-map k.inputs marked_place, ap length named.inputs, length-map (map input_setup c.inputs) setup_place, length-map c.inputs input_setup, length-map c.inputs input_name)
+
+  as_many_stores : length k.stores ≡ length c.stores
+  as_many_stores = omega (arith, length-map k.stores mark_name, ap length named.stores, length-map c.stores store_name)
+
+  input_names : map name_of (map marked_place k.inputs) ≡ map input_name c.inputs
+  input_names = ap (map name_of) named.inputs ∙ named_places c.inputs
+
+  named_well : IsWellFormed k
+  named_well = record {
+    few_inputs = omega (arith, as_many_inputs, bounded.inputs.few);
+    few_stores = omega (arith, as_many_stores, bounded.stores.few);
+    few_outputs = omega (arith, ap length named.outputs, bounded.outputs.few);
+    each_input = marks_fit k.inputs (subst (AllByRecursion FitsPlace) (sym named.inputs) (places_fit c.inputs bounded.inputs.each));
+    each_store = marks_spelled k.stores (subst (AllByRecursion IsSystem) (sym named.stores) (names_spelled c.stores bounded.stores.each));
+    each_output = subst (AllByRecursion IsTopic) (sym named.outputs) bounded.outputs.each;
+    inputs_rise = inputs_rise_by k.inputs (subst AreRising (sym input_names) bounded.inputs_rise);
+    stores_rise = stores_rise_by k.stores (subst AreRising (sym named.stores) bounded.stores_rise);
+    outputs_distinct = ap are_distinct named.outputs ∙ bounded.outputs_distinct;
   }
 
 -- no row holds, so the first one doesn't
@@ -53,49 +117,21 @@ unheld false key rest none = (refl, none)
 at_most_one : (n : ℕ) → nat_lt 1 n ≡ false → n ≤ 1
 at_most_one n h = grind (arith, nat_tests, h)
 
--- one input, one output and one store at most
-few : (c : JobConfig) → first_not_built c ≡ None → (length c.inputs ≤ 1) × (length c.outputs ≤ 1) × (length c.stores ≤ 1)
+few_inputs : (c : JobConfig) → first_not_built c ≡ None → length c.inputs ≤ 1
 unfolding first_not_built
-few c none =
+few_inputs c none =
     let past_class = unheld _ _ _ none in
     let inputs = unheld _ _ _ past_class.1 in
-    let outputs = unheld _ _ _ inputs.1 in
-    let stores = unheld _ _ _ outputs.1 in
-    (at_most_one (length c.inputs) inputs.0, at_most_one (length c.outputs) outputs.0, at_most_one (length c.stores) stores.0)
-
-module _ (c : JobConfig) (bounded : IsBounded c) (i : InputConfig) (one_input : c.inputs ≡ i ∷ []) (o : List ℕ) (one_output : c.outputs ≡ o ∷ []) (t : StoreSetup) (one_store : c.stores ≡ t ∷ []) where
-  input_topic : is_topic (input_name i) ≡ true
-  input_topic = (subst (λ (l : List InputConfig). AllByRecursion (λ n. is_topic n ≡ true) (map input_name l)) one_input bounded.inputs.each).0
-
-  output_topic : is_topic o ≡ true
-  output_topic = (subst (λ (l : List (List ℕ)). AllByRecursion (λ n. is_topic n ≡ true) l) one_output bounded.outputs.each).0
-
-  store_is : IsStore t
-  store_is = (subst (λ (l : List StoreSetup). AllByRecursion IsStore l) one_store bounded.stores.each).0
-
-  named_well : (k : Checkpoint) → IsNamed (setup_of c) k → IsWellFormed k
-  named_well k named =
-      let place = one_of marked_place k.inputs (input_name i, 0) (named.inputs ∙ ap (λ (l : List InputConfig). map setup_place (map input_setup l)) one_input) in
-      let name = one_of (λ (s : StoreMark). s.name) k.stores t.name (named.stores ∙ ap (λ (l : List StoreSetup). map (λ (s : StoreSetup). s.name) l) one_store) in
-      well_formed k (input_name i) input_topic place.0 place.1 place.2 t.name store_is.name name.0 name.1 name.2 o output_topic (named.outputs ∙ one_output)
-
-  is_set_up : IsSetUp (setup_of c)
-  is_set_up = record {
-    one_input = ap (λ (l : List InputConfig). length (map input_setup l)) one_input;
-    spelled = named_well;
-    few_stores = omega (arith, bounded.stores.few);
-    few_outputs = omega (arith, bounded.outputs.few);
-    batches = subst (λ (l : List StoreSetup). AllByRecursion (λ (s : StoreSetup). (1 ≤ s.batch) × (s.batch ≤ 4096)) l) (sym one_store) (store_is.batch, tt);
-  }
+    at_most_one (length c.inputs) inputs.0
 
 pub set_up : (c : JobConfig) → IsBounded c → first_not_built c ≡ None → IsSetUp (setup_of c)
-set_up c bounded built =
-    let most = few c built in
-    let some_inputs : 1 ≤ length c.inputs = omega (arith, bounded.inputs.some, length-map c.inputs input_name) in
-    let i = only c.inputs some_inputs most.0 in
-    let o = only c.outputs bounded.outputs.some most.1 in
-    let t = only c.stores bounded.stores.some most.2 in
-    is_set_up c bounded i.0 i.1 o.0 o.1 t.0 t.1
+set_up c bounded built = record {
+  one_input = omega (arith, few_inputs c built, bounded.inputs.some, length-map c.inputs input_name, length-map c.inputs input_setup);
+  spelled = named_well c bounded;
+  few_stores = bounded.stores.few;
+  few_outputs = bounded.outputs.few;
+  batches = batched c.stores bounded.stores.each;
+}
 
 pub if_set_up : {E : Type 0} (made : Result Setup E) (c : JobConfig) → IsBounded c → first_not_built c ≡ None → IfOk made (λ s. s ≡ setup_of c) → IfOk made IsSetUp
 if_set_up (Ok s) c bounded built is = subst IsSetUp (sym is) (set_up c bounded built)

@@ -2,9 +2,9 @@
 use Rattle.std.proofs.Common.{ℕ, List, Result, Ok, Err, IfOk, IfErr, inl, inr}
 use Rattle.samza_model.specs.declared.setups.Setup.{Setup}
 use Rattle.samza_model.specs.Files.{Image}
-use Rattle.task_unit.specs.declared.faults.OpenFault.{OpenFault}
-use Rattle.task_unit.specs.declared.faults.OpenFault.TheVariants.{Device, Damaged, Shape, Ahead, Tail, Limit, NoMemory}
-use Rattle.task_unit.specs.Refused.{WhyNoInput}
+use Rattle.restore_trim.specs.declared.faults.OpenFault.{OpenFault}
+use Rattle.restore_trim.specs.declared.faults.OpenFault.TheVariants.{Device, Damaged, Shape, Ahead, Limit, NoMemory}
+use Rattle.task_unit.specs.Inputs.{WhyNoInput}
 use Rattle.task_unit.specs.Units.{WhyNotOpened}
 
 pub if_ok : {A E : Type 0} (r : Result A E) {P Q : A → Type 0} → ((x : A) → P x → Q x) → IfOk r P → IfOk r Q
@@ -28,7 +28,6 @@ no_input_told tells bytes partition Device told why = tt
 no_input_told tells bytes partition (Damaged input file at) told why = (why.0, why.1, λ _. why.2 told)
 no_input_told tells bytes partition Shape told why = absurd why
 no_input_told tells bytes partition (Ahead input store wanted held) told why = absurd why
-no_input_told tells bytes partition (Tail store count held) told why = absurd why
 no_input_told tells bytes partition Limit told why = absurd why
 no_input_told tells bytes partition NoMemory told why = tt
 

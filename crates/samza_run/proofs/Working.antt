@@ -1,16 +1,20 @@
 -- A unit from its opening to its last commit.
-use Rattle.std.proofs.Common.{ℕ, suc, ◌≡◌, ◌<◌, ◌≤◌, ◌+◌, ◌-◌, ◌⊎◌, List, [], ◌∷◌, length, map, get_or, inl, inr, sym, subst, ap, ◌∙◌, refl, arith}
+use Rattle.std.proofs.Common.{ℕ, suc, ◌≡◌, ◌<◌, ◌≤◌, ◌+◌, ◌-◌, ◌⊎◌, List, [], ◌∷◌, ◌++◌, Option, length, map, get_or, inl, inr, sym, subst, ap, ◌∙◌, refl, arith}
 use Rattle.samza_model.specs.declared.messages.Record.{Record}
 use Rattle.samza_model.specs.declared.checkpoints.Checkpoint.{Checkpoint}
 use Rattle.samza_model.specs.declared.setups.Setup.{Setup}
 use Rattle.samza_model.specs.Content.{Content, State, sent_at}
 use Rattle.samza_model.specs.Files.{Image, checkpoint_file, changelog_file, output_file}
-use Rattle.samza_model.specs.Logs.{HasLog}
+use Rattle.samza_model.specs.Logs.{joined, HasFrames, HasLog}
 use Rattle.samza_model.specs.Meaning.{Meaning}
-use Rattle.samza_model.specs.Restored.{Restores, next_at, start_of}
-use Rattle.task_unit.specs.Growth.{Passes, PassesLimit}
-use Rattle.task_unit.specs.Refused.{CountsHold}
-use Rattle.task_unit.specs.Units.{UnitValue, CommitLeaves, IsCommitted, IsFailed, LogsStay, SameFrames, appended_at, input_of}
+use Rattle.samza_model.specs.Restored.{Restores, count_at, next_at, start_of}
+use Rattle.changelog.specs.Folds.{reverts_of}
+use Rattle.restore_trim.specs.Growth.{Passes}
+use Rattle.restore_trim.specs.Refused.{StoresOpen}
+use Rattle.restore_trim.proofs.Cutting.{cut_unique}
+use Rattle.topic_log.proofs.Spelling.{frames_unique}
+use Rattle.task_unit.specs.Growth.{PassesLimit}
+use Rattle.task_unit.specs.Units.{UnitValue, CommitLeaves, IsCommitted, IsFailed, LogsStay, appended_at, input_of}
 use Rattle.samza_run.specs.declared.faults.RunFault.{RunFault}
 use Rattle.samza_run.specs.declared.faults.RunFault.TheVariants.{Words, NoText, TextLimit, BadEscape, BadKey, NotBuilt, NoPartition, Device, NotOpened, Failed, Limit, NoMemory}
 use Rattle.samza_run.specs.Causes.{WhyNotFinished, WhyUnfinished}
@@ -32,45 +36,56 @@ IsTaskFile : Setup → ℕ → Type 0
 IsTaskFile s file = ((j : ℕ) × (j < length s.outputs) × (file ≡ output_file j)) ⊎ (((i : ℕ) × (i < length s.stores) × (file ≡ changelog_file i)) ⊎ (file ≡ checkpoint_file))
 
 -- a file that has the same frames passes the limit with the same
-module _ (s : Setup) (now there : Image) (carry : (file : ℕ) → IsTaskFile s file → (frames : List (List Record)) → Passes (now file) frames → Passes (there file) frames) where
+module _ (s : Setup) (now there : Image) (carry : (file : ℕ) → IsTaskFile s file → (frames : List (List Record)) → HasFrames (now file) frames → HasFrames (there file) frames) where
+  carried : (file : ℕ) → IsTaskFile s file → (frames : List (List Record)) → Passes (now file) frames → Passes (there file) frames
+  carried file is frames p = record { had = p.had; has = carry file is p.had p.has; passes = p.passes }
+
   passes_there : (unlogged sent : List (List Record)) → PassesLimit s now unlogged sent → PassesLimit s there unlogged sent
   unfolding IsTaskFile
   passes_there unlogged sent (inl o) =
       let p = o.passes in
-      inl (record { output = o.output; within = o.within; passes = record { frames = p.frames; cut = p.cut; passes = carry (output_file o.output) (inl (o.output, o.within, refl)) p.frames p.passes } })
+      inl (record { output = o.output; within = o.within; passes = record { frames = p.frames; cut = p.cut; passes = carried (output_file o.output) (inl (o.output, o.within, refl)) p.frames p.passes } })
   passes_there unlogged sent (inr (inl o)) =
       let p = o.passes in
-      inr (inl (record { store = o.store; within = o.within; passes = record { frames = p.frames; cut = p.cut; passes = carry (changelog_file o.store) (inr (inl (o.store, o.within, refl))) p.frames p.passes } }))
+      inr (inl (record { store = o.store; within = o.within; passes = record { frames = p.frames; cut = p.cut; passes = carried (changelog_file o.store) (inr (inl (o.store, o.within, refl))) p.frames p.passes } }))
   passes_there unlogged sent (inr (inr m)) =
-      inr (inr (record { mark = m.mark; named = m.named; last = m.last; spells = m.spells; passes = carry checkpoint_file (inr (inr refl)) ((m.last ∷ []) ∷ []) m.passes }))
+      inr (inr (record { mark = m.mark; named = m.named; last = m.last; spells = m.spells; passes = carried checkpoint_file (inr (inr refl)) ((m.last ∷ []) ∷ []) m.passes }))
 
-same_at : (s : Setup) (before after : Image) → LogsStay s before after → (file : ℕ) → IsTaskFile s file → SameFrames before after file
-unfolding IsTaskFile
-same_at s before after stay file (inl o) = subst (SameFrames before after) (sym o.2) (stay.outputs o.0 o.1)
-same_at s before after stay file (inr (inl o)) = subst (SameFrames before after) (sym o.2) (stay.changelogs o.0 o.1)
-same_at s before after stay file (inr (inr is)) = subst (SameFrames before after) (sym is) stay.marks
+-- two images that an opening may leave of the same files have the same frames
+module _ (s : Setup) (mark : Option Checkpoint) (before one other : Image) (opens : StoresOpen before mark (length s.stores)) (stay : LogsStay s mark before one) (stay' : LogsStay s mark before other) where
+  same_changes : (i : ℕ) → i < length s.stores → (had : List (List Record)) → HasFrames (one (changelog_file i)) had → HasFrames (other (changelog_file i)) had
+  same_changes i lt had has =
+      let found = (opens i lt).has in
+      let left = stay.changelogs i lt found.frames found.has in
+      let right = stay'.changelogs i lt found.frames found.has in
+      let same : right.0 ≡ left.0 = cut_unique 500 (reverts_of (count_at mark i) (joined found.frames)) right.0 left.0 right.1 left.1 in
+      let is : found.frames ++ right.0 ≡ had = ap (λ (r : List (List Record)). found.frames ++ r) same ∙ frames_unique (one (changelog_file i)) (found.frames ++ left.0) had left.2 has in
+      subst (λ (fs : List (List Record)). HasFrames (other (changelog_file i)) fs) is right.2
 
-passes_before : (s : Setup) (before after : Image) → LogsStay s before after → (unlogged sent : List (List Record)) → PassesLimit s after unlogged sent → PassesLimit s before unlogged sent
-passes_before s before after stay = passes_there s after before (λ file is frames p. record { had = p.had; has = (same_at s before after stay file is p.had).1 p.has; passes = p.passes })
+  same_frames : (file : ℕ) → IsTaskFile s file → (had : List (List Record)) → HasFrames (one file) had → HasFrames (other file) had
+  unfolding IsTaskFile
+  same_frames file (inl o) had = subst (λ (f : ℕ). HasFrames (one f) had → HasFrames (other f) had) (sym o.2) (λ has. (stay'.outputs o.0 o.1 had).0 ((stay.outputs o.0 o.1 had).1 has))
+  same_frames file (inr (inl o)) had = subst (λ (f : ℕ). HasFrames (one f) had → HasFrames (other f) had) (sym o.2) (same_changes o.0 o.1 had)
+  same_frames file (inr (inr is)) had = subst (λ (f : ℕ). HasFrames (one f) had → HasFrames (other f) had) (sym is) (λ has. (stay'.marks had).0 ((stay.marks had).1 has))
 
-passes_behind : (s : Setup) (before after : Image) → LogsStay s before after → (unlogged sent : List (List Record)) → PassesLimit s before unlogged sent → PassesLimit s after unlogged sent
-passes_behind s before after stay = passes_there s before after (λ file is frames p. record { had = p.had; has = (same_at s before after stay file is p.had).0 p.has; passes = p.passes })
+  passes_other : (unlogged sent : List (List Record)) → PassesLimit s one unlogged sent → PassesLimit s other unlogged sent
+  passes_other = passes_there s one other same_frames
 
 module _ {P D S : Type 0} (job : Meaning) (s : Setup) (bytes : List ℕ) (image reads : Image) (u : UnitValue P D S) (setup_is : u.setup ≡ s)
-    (restored : Restores s image u.mark u.state.stores) (counts : CountsHold image u.mark (length s.stores)) (stay : LogsStay s image reads) (has : HasLog bytes u.messages)
+    (restored : Restores s image u.mark u.state.stores) (opens : StoresOpen image u.mark (length s.stores)) (stay : LogsStay s u.mark image reads) (has : HasLog bytes u.messages)
     (start : (u.next ≡ start_of (next_at u.mark 0) (input_of s) (record { first = 0; records = u.messages })) × (u.begun ≡ u.next)) (within : u.next ≤ length u.messages)
     (outputs : length u.state.sent ≡ length s.outputs) (unsent : (j : ℕ) → j < length s.outputs → sent_at u.state.sent j ≡ []) where
   is_fresh : u.state ≡ fresh s u.state.stores
   is_fresh = ap (λ (sent : List (List Record)). record { stores = u.state.stores; sent = sent }) (all_empty u.state.sent s.outputs outputs unsent)
 
-  -- what passes the limit as the files were found passes it as they are open
-  filled : FillsFrom job s image u.messages u.next (fresh s u.state.stores) → FillsFrom job s reads u.messages u.next u.state
-  filled fills = record {
+  -- what passes the limit as an opening may leave the files passes it as they are open
+  filled : (logs : Image) → LogsStay s u.mark image logs → FillsFrom job s logs u.messages u.next (fresh s u.state.stores) → FillsFrom job s reads u.messages u.next u.state
+  filled logs left fills = record {
     left = fills.left;
     does = subst (λ old. Does job s u.messages u.next (length u.messages) old fills.left) (sym is_fresh) fills.does;
     unlogged = fills.unlogged;
     changes = subst (λ old. AreChanges job s u.messages u.next (length u.messages) old fills.left fills.unlogged) (sym is_fresh) fills.changes;
-    passes = passes_behind s image reads stay fills.unlogged fills.left.sent fills.passes;
+    passes = passes_other s u.mark image logs reads opens left stay fills.unlogged fills.left.sent fills.passes;
   }
 
   output_stays : (j : ℕ) → j < length s.outputs → (had : List Record) → HasLog (image (output_file j)) had → HasLog (reads (output_file j)) had
@@ -80,7 +95,7 @@ module _ {P D S : Type 0} (job : Meaning) (s : Setup) (bytes : List ℕ) (image 
   reaches to state does = record {
     stores = u.state.stores;
     restored = restored;
-    counts = counts;
+    opens = opens;
     has_messages = has;
     begins = start.1 ∙ start.0;
     within = omega (arith, start.1, within);
@@ -110,7 +125,7 @@ module _ {P D S : Type 0} (job : Meaning) (s : Setup) (bytes : List ℕ) (image 
     begun = u.begun;
     state = f.left;
     reached = reaches (length u.messages) f.left (subst (λ t. Does job t u.messages u.next (length u.messages) u.state f.left) (sym setup_is) f.does);
-    room = λ fills. f.room (filled (subst (λ (begun : ℕ). FillsFrom job s image u.messages begun (fresh s u.state.stores)) start.1 fills));
+    room = λ logs left fills. f.room (filled logs left (subst (λ (begun : ℕ). FillsFrom job s logs u.messages begun (fresh s u.state.stores)) start.1 fills));
     made = f.made;
     committed = committed_before after (length u.messages) f.left f.made f.committed;
   }
@@ -174,6 +189,8 @@ module _ {P D S : Type 0} (job : Meaning) (s : Setup) (bytes : List ℕ) (image 
         unlogged = f.unlogged;
         changes = subst (λ from. AreChanges job s u.messages from (length u.messages) (fresh s u.state.stores) f.left f.unlogged) (sym start.1)
             (subst (λ old. AreChanges job s u.messages u.next (length u.messages) old f.left f.unlogged) is_fresh f.changes);
-        passes = passes_before s image reads stay f.unlogged f.left.sent f.passes;
+        logs = reads;
+        stay = stay;
+        passes = f.passes;
       }
   unfinished tells told NoMemory why = tt

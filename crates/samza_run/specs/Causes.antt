@@ -8,8 +8,8 @@ use Rattle.samza_model.specs.declared.setups.Setup.{Setup}
 use Rattle.disk_model.specs.declared.hosts.HostFault.{HostFault}
 use Rattle.disk_model.specs.declared.hosts.HostFault.TheVariants.{Device as HostDevice, NoMemory as HostNoMemory}
 use Rattle.shipped_jobs.specs.WordCount.{word_count}
-use Rattle.task_unit.specs.declared.faults.OpenFault.{OpenFault}
-use Rattle.task_unit.specs.declared.faults.OpenFault.TheVariants.{Device as OpenDevice, Damaged, Shape, Ahead, Tail, Limit as OpenLimit, NoMemory as OpenNoMemory}
+use Rattle.restore_trim.specs.declared.faults.OpenFault.{OpenFault}
+use Rattle.restore_trim.specs.declared.faults.OpenFault.TheVariants.{Device as OpenDevice, Damaged, Shape, Ahead, Limit as OpenLimit, NoMemory as OpenNoMemory}
 use Rattle.task_unit.specs.Units.{WhyNotOpened}
 use Rattle.samza_run.specs.declared.faults.RunFault.{RunFault}
 use Rattle.samza_run.specs.declared.faults.RunFault.TheVariants.{Words, NoText, TextLimit, BadEscape, BadKey, NotBuilt, NoPartition, Device, NotOpened, Failed, Limit, NoMemory}
@@ -91,7 +91,6 @@ open_status OpenDevice = 4
 open_status (Damaged input file at) = 6
 open_status Shape = 6
 open_status (Ahead input store wanted held) = 6
-open_status (Tail store count held) = 6
 open_status OpenLimit = 9
 open_status OpenNoMemory = 8
 

@@ -8,8 +8,8 @@ use Rattle.samza_model.specs.declared.turns.Why.TheVariants.{Code, TooMany, Limi
 use Rattle.samza_model.specs.Names.{topic_of}
 use Rattle.job_config.specs.declared.faults.What.{What}
 use Rattle.job_config.specs.declared.faults.What.TheVariants.{Missing, NotNumber, OutOfRange, BadName, Unknown}
-use Rattle.task_unit.specs.declared.faults.OpenFault.{OpenFault}
-use Rattle.task_unit.specs.declared.faults.OpenFault.TheVariants.{Device as OpenDevice, Damaged, Shape, Ahead, Tail, Limit as OpenLimit, NoMemory as OpenNoMemory}
+use Rattle.restore_trim.specs.declared.faults.OpenFault.{OpenFault}
+use Rattle.restore_trim.specs.declared.faults.OpenFault.TheVariants.{Device as OpenDevice, Damaged, Shape, Ahead, Limit as OpenLimit, NoMemory as OpenNoMemory}
 use Rattle.samza_run.specs.declared.faults.RunFault.{RunFault}
 use Rattle.samza_run.specs.declared.faults.RunFault.TheVariants.{Words, NoText, TextLimit, BadEscape, BadKey, NotBuilt, NoPartition, Device, NotOpened, Failed, Limit, NoMemory}
 use Rattle.samza_run.specs.Texts.{task_text, partition_text, text_of}
@@ -64,7 +64,6 @@ open_text task inputs OpenDevice = codes "device failed"
 open_text task inputs (Damaged input file at) = codes "damaged: " ++ file_text task inputs input file ++ codes ": byte " ++ decimal at
 open_text task inputs Shape = codes "shape: " ++ task_text task
 open_text task inputs (Ahead input store wanted held) = codes "ahead: " ++ file_text task inputs input (changelog_file store) ++ codes ": " ++ decimal wanted ++ codes " above " ++ decimal held
-open_text task inputs (Tail store count held) = codes "tail: " ++ task_text task ++ codes ": " ++ decimal count ++ codes " below " ++ decimal held
 open_text task inputs OpenLimit = codes "limit: file"
 open_text task inputs OpenNoMemory = codes "no memory"
 

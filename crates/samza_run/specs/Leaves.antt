@@ -9,7 +9,8 @@ use Rattle.samza_model.specs.Meaning.{Meaning}
 use Rattle.disk_model.specs.declared.names.DiskName.{DiskName}
 use Rattle.disk_model.specs.Handles.{SameAt}
 use Rattle.disk_model.specs.Images.{LeavesOnly}
-use Rattle.task_unit.specs.Units.{CommitLeaves, OpeningLeaves}
+use Rattle.restore_trim.specs.Crashes.{OpeningLeaves}
+use Rattle.task_unit.specs.Units.{CommitLeaves}
 use Rattle.shipped_jobs.specs.WordCount.{word_count}
 use Rattle.samza_run.specs.Causes.{IsReady}
 use Rattle.samza_run.specs.Configured.{Folder, input_disk, task_disk}

@@ -34,8 +34,6 @@ abbrev pub rows : JobConfig → List Row
 rows c =
     (is_other_job c.class, codes "task.class")
     ∷ (nat_lt 1 (length c.inputs), codes "task.inputs")
-    ∷ (nat_lt 1 (length c.outputs), codes "app.outputs")
-    ∷ (nat_lt 1 (length c.stores), codes "stores")
     ∷ (nat_lt 1 c.containers, codes "job.container.count")
     ∷ (nat_lt 0 c.workers, codes "job.container.thread.pool.size")
     ∷ (nat_lt 1 c.concurrency, codes "task.max.concurrency")

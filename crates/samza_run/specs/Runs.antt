@@ -16,8 +16,8 @@ use Rattle.kv_store.specs.Tracked.{Keys, no_keys}
 use Rattle.task_unit.specs.Growth.{PassesLimit}
 use Rattle.task_unit.specs.Held.{unlogged_at}
 use Rattle.task_unit.specs.Touched.{acts_of, touched, records_of}
-use Rattle.task_unit.specs.Refused.{CountsHold}
-use Rattle.task_unit.specs.Units.{UnitValue, IsCommitted, IsFailed, input_of}
+use Rattle.restore_trim.specs.Refused.{StoresOpen}
+use Rattle.task_unit.specs.Units.{UnitValue, IsCommitted, IsFailed, LogsStay, input_of}
 
 -- the messages from one offset on that lie below another
 abbrev pub between : List Record → ℕ → ℕ → List Record
@@ -47,19 +47,19 @@ AreChanges job s messages from to old new unlogged = (i : ℕ) → i < length s.
 pub record Reaches (job : Meaning) (s : Setup) (input : List ℕ) (before : Image) (mark : Option Checkpoint) (messages : List Record) (begun next : ℕ) (state : State) : Type 0 where
   pub stores : List Content
   pub restored : Restores s before mark stores
-  pub counts : CountsHold before mark (length s.stores)
+  pub opens : StoresOpen before mark (length s.stores)
   pub has_messages : HasLog input messages
   pub begins : begun ≡ start_of (next_at mark 0) (input_of s) (record { first = 0; records = messages })
   pub within : begun ≤ length messages
   pub does : Does job s messages begun next (fresh s stores) state
 
--- from this state on, the job did all messages, and a file would pass 2^40 bytes with what they left to append
-pub record FillsFrom (job : Meaning) (s : Setup) (before : Image) (messages : List Record) (from : ℕ) (old : State) : Type 0 where
+-- from this state on, the job did all messages, and one of the files that are open would pass 2^40 bytes with what they left to append
+pub record FillsFrom (job : Meaning) (s : Setup) (logs : Image) (messages : List Record) (from : ℕ) (old : State) : Type 0 where
   pub left : State
   pub does : Does job s messages from (length messages) old left
   pub unlogged : List (List Record)
   pub changes : AreChanges job s messages from (length messages) old left unlogged
-  pub passes : PassesLimit s before unlogged left.sent
+  pub passes : PassesLimit s logs unlogged left.sent
 
 -- the job did all messages, and the task's files then have the next checkpoint, with just what it left
 pub record Ran (job : Meaning) (s : Setup) (input : List ℕ) (before after : Image) : Type 0 where
@@ -68,8 +68,8 @@ pub record Ran (job : Meaning) (s : Setup) (input : List ℕ) (before after : Im
   pub begun : ℕ
   pub state : State
   pub reached : Reaches job s input before mark messages begun (length messages) state
-  -- no file grew too large
-  pub room : FillsFrom job s before messages begun (fresh s reached.stores) → ⊥
+  -- no file grew too large, as the opening left them
+  pub room : (logs : Image) → LogsStay s mark before logs → FillsFrom job s logs messages begun (fresh s reached.stores) → ⊥
   pub made : Checkpoint
   pub committed : IsCommitted s before after mark (length messages) state made
 
@@ -91,7 +91,7 @@ pub record Fails (job : Meaning) (s : Setup) (input : List ℕ) (before : Image)
   pub reached : Reaches job s input before mark messages begun next state
   pub failed : IsFailed job s messages begun next state f
 
--- the job did all messages, and a file would pass 2^40 bytes with what they left to append
+-- the job did all messages, and one of the files, as the opening left them, would pass 2^40 bytes with what they left to append
 pub record Fills (job : Meaning) (s : Setup) (input : List ℕ) (before : Image) : Type 0 where
   pub mark : Option Checkpoint
   pub messages : List Record
@@ -100,7 +100,9 @@ pub record Fills (job : Meaning) (s : Setup) (input : List ℕ) (before : Image)
   pub reached : Reaches job s input before mark messages begun (length messages) state
   pub unlogged : List (List Record)
   pub changes : AreChanges job s messages begun (length messages) (fresh s reached.stores) state unlogged
-  pub passes : PassesLimit s before unlogged state.sent
+  pub logs : Image
+  pub stay : LogsStay s mark before logs
+  pub passes : PassesLimit s logs unlogged state.sent
 
 -- from this state on, the job did the messages below one that it failed
 pub record FailsFrom (job : Meaning) (s : Setup) (messages : List Record) (begun next : ℕ) (state : State) (f : Failure) : Type 0 where

@@ -46,10 +46,6 @@ fn first_of_job(config: &JobConfig) -> Option<&'static [u8]>
         Some(b"task.class")
     } else if config.inputs.as_slice().len() > 1 {
         Some(b"task.inputs")
-    } else if config.outputs.as_slice().len() > 1 {
-        Some(b"app.outputs")
-    } else if config.stores.as_slice().len() > 1 {
-        Some(b"stores")
     } else if config.containers > 1 {
         Some(b"job.container.count")
     } else if config.workers > 0 {

@@ -134,11 +134,6 @@ fn the_first_key_that_is_not_built_is_told(rt: HostRuntime) -> Result<(), Fail> 
             b"job.container.count=2\n",
             b"config: job.container.count: NotBuilt\n",
         ),
-        (b"stores.more.changelog=x\n", b"config: stores: NotBuilt\n"),
-        (
-            b"app.outputs=kafka.a,kafka.b\n",
-            b"config: app.outputs: NotBuilt\n",
-        ),
         (
             b"task.inputs=kafka.lines,kafka.more\n",
             b"config: task.inputs: NotBuilt\n",
@@ -159,16 +154,22 @@ fn the_first_key_that_is_not_built_is_told(rt: HostRuntime) -> Result<(), Fail> 
 }
 
 #[test]
-fn another_output_is_refused_by_the_checkpoint(rt: HostRuntime) -> Result<(), Fail> {
+fn other_names_are_refused_by_the_checkpoint(rt: HostRuntime) -> Result<(), Fail> {
     let alloc = rt.alloc();
     let task = DiskName::Task(0);
-    let mut text = Vec::from_slice(alloc, CONFIGURATION)?;
-    text.extend_from_slice(b"app.outputs=kafka.sums\n")?;
-    let mut host = folder(alloc, text.as_slice())?;
-    put_lines(alloc, &mut host, 0, TWO_LINES)?;
-    host.put_file(&task, 0, CHECKPOINT)?;
-    host.put_file(&task, 1, COUNTS)?;
-    host.put_file(&task, 16, TOTALS)?;
-    assert!(rt; refuses(alloc, &mut host, 6, b"shape: Partition 0\n")?);
+    for lines in [
+        b"app.outputs=kafka.sums\n".as_slice(),
+        b"app.outputs=kafka.totals,kafka.sums\n",
+        b"stores.other.changelog=kafka.other-log\n",
+    ] {
+        let mut text = Vec::from_slice(alloc, CONFIGURATION)?;
+        text.extend_from_slice(lines)?;
+        let mut host = folder(alloc, text.as_slice())?;
+        put_lines(alloc, &mut host, 0, TWO_LINES)?;
+        host.put_file(&task, 0, CHECKPOINT)?;
+        host.put_file(&task, 1, COUNTS)?;
+        host.put_file(&task, 16, TOTALS)?;
+        assert!(rt; refuses(alloc, &mut host, 6, b"shape: Partition 0\n")?);
+    }
     Ok(())
 }

@@ -111,16 +111,6 @@ fn put_not_opened(
             text.put(b": ")?;
             put_two(text, *wanted, b" above ", *held)?;
         }
-        OpenFault::Tail {
-            store: _,
-            count,
-            held,
-        } => {
-            text.put(b"tail: ")?;
-            text.put_task(task)?;
-            text.put(b": ")?;
-            put_two(text, *count, b" below ", *held)?;
-        }
         OpenFault::Limit => text.put(b"limit: file")?,
         OpenFault::NoMemory => text.put(b"no memory")?,
     }

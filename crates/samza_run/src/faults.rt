@@ -63,10 +63,7 @@ fn open_status(fault: &OpenFault) -> u8
 {
     match fault {
         OpenFault::Device => 4,
-        OpenFault::Damaged { .. }
-        | OpenFault::Shape
-        | OpenFault::Ahead { .. }
-        | OpenFault::Tail { .. } => 6,
+        OpenFault::Damaged { .. } | OpenFault::Shape | OpenFault::Ahead { .. } => 6,
         OpenFault::Limit => 9,
         OpenFault::NoMemory => 8,
     }

@@ -17,6 +17,8 @@ mod reports;
 mod running;
 mod setups;
 #[cfg(test)]
+mod several_tests;
+#[cfg(test)]
 mod tests;
 #[cfg(test)]
 mod text_tests;

@@ -43,10 +43,6 @@ fn ahead(input: Option<u32>, store: Option<u32>, wanted: u64, held: u64) -> RunF
     })
 }
 
-fn tail(store: u32, count: u64, held: u64) -> RunFault {
-    RunFault::NotOpened(OpenFault::Tail { store, count, held })
-}
-
 #[test]
 fn each_fault_has_its_line(rt: HostRuntime) -> Result<(), Fail> {
     let alloc = rt.alloc();
@@ -97,7 +93,6 @@ fn each_fault_has_its_line(rt: HostRuntime) -> Result<(), Fail> {
             ahead(None, Some(0), 3, 2),
             "ahead: Partition 0 file 1: 3 above 2\n",
         ),
-        (tail(0, 2, 4), "tail: Partition 0: 2 below 4\n"),
         (
             RunFault::NotOpened(OpenFault::Shape),
             "shape: Partition 0\n",

@@ -3,7 +3,7 @@ use Rattle.samza_model.specs.declared.setups.Setup.{Setup}
 use Rattle.samza_model.specs.Restored.{Restores}
 use Rattle.disk_model.specs.Images.{LeavesOnly}
 use Rattle.disk_model.proofs.Moments.{weaker}
-use Rattle.task_unit.specs.Units.{OpeningLeaves}
+use Rattle.restore_trim.specs.Crashes.{OpeningLeaves}
 use Rattle.samza_run.specs.Causes.{WhyUnfinished}
 use Rattle.samza_run.specs.Leaves.{FinishLeaves, RunLeaves}
 use Rattle.samza_run.specs.Reported.{Reported}
@@ -25,7 +25,7 @@ returns-clause-ran g c =
     if_ok c.finish-done.result (λ text done told shown.
     subst (λ j. Reported (meaning j) c.args.setup (g.S.Shelf.bytes c.args.shelf) (disk.reads c.args.disk) (disk.reads c.close-disk.result.0) text.items) e.given.0
     (subst (λ d. Reported (meaning u.job) c.args.setup (g.S.Shelf.bytes c.args.shelf) (disk.reads c.args.disk) (disk.reads d) text.items) (sym c.close-disk.ensures.disk)
-    (has_reported (meaning u.job) c.args.setup (g.S.Shelf.bytes c.args.shelf) (disk.reads c.args.disk) (disk.reads u.disk) u e.given.1 (e.restored told) (e.counts told) (e.logs_stay told) (e.messages shown) e.start e.within e.outputs e.unsent
+    (has_reported (meaning u.job) c.args.setup (g.S.Shelf.bytes c.args.shelf) (disk.reads c.args.disk) (disk.reads u.disk) u e.given.1 (e.restored told) (e.opens told) (e.logs_stay told) (e.messages shown) e.start e.within e.outputs e.unsent
     (disk.reads c.finish-done.new.unit.disk) text.items e.none_appended (done told))))
     c.finish-done.ensures.done
 
@@ -37,7 +37,7 @@ returns-clause-why g c =
     let meaning = g.J.Job.meaning in
     if_err c.finish-done.result (λ fault why told shown.
     subst (λ j. WhyUnfinished (meaning j) c.args.setup (g.S.Shelf.bytes c.args.shelf) (disk.reads c.args.disk) fault) e.given.0
-    (unfinished (meaning u.job) c.args.setup (g.S.Shelf.bytes c.args.shelf) (disk.reads c.args.disk) (disk.reads u.disk) u e.given.1 (e.restored told) (e.counts told) (e.logs_stay told) (e.messages shown) e.start e.within e.outputs e.unsent
+    (unfinished (meaning u.job) c.args.setup (g.S.Shelf.bytes c.args.shelf) (disk.reads c.args.disk) (disk.reads u.disk) u e.given.1 (e.restored told) (e.opens told) (e.logs_stay told) (e.messages shown) e.start e.within e.outputs e.unsent
     disk.tells told fault why))
     c.finish-done.ensures.why
 
@@ -49,7 +49,7 @@ returns-clause-durable g c =
     let meaning = g.J.Job.meaning in
     if_ok c.finish-done.result (λ text done told shown image is.
     subst (λ j. Reported (meaning j) c.args.setup (g.S.Shelf.bytes c.args.shelf) (disk.reads c.args.disk) image text.items) e.given.0
-    (has_reported (meaning u.job) c.args.setup (g.S.Shelf.bytes c.args.shelf) (disk.reads c.args.disk) (disk.reads u.disk) u e.given.1 (e.restored told) (e.counts told) (e.logs_stay told) (e.messages shown) e.start e.within e.outputs e.unsent
+    (has_reported (meaning u.job) c.args.setup (g.S.Shelf.bytes c.args.shelf) (disk.reads c.args.disk) (disk.reads u.disk) u e.given.1 (e.restored told) (e.opens told) (e.logs_stay told) (e.messages shown) e.start e.within e.outputs e.unsent
     image text.items e.none_appended (done told image (subst (λ d. disk.images d image) c.close-disk.ensures.disk is))))
     c.finish-done.ensures.durable
 
@@ -80,5 +80,5 @@ returns-clause-any_moment g c = λ told shown.
     (e.any_moment told) (c.finish-done.ensures.any_moment told u.state.stores restores)
     (λ b image left. elim left [
       | inl same ↦ inl same
-      | inr done ↦ inr (left_in_commit (meaning u.job) c.args.setup bytes before at u e.given.1 (e.restored told) (e.counts told) (e.logs_stay told) (e.messages shown) e.start e.within e.outputs e.unsent image done)
+      | inr done ↦ inr (left_in_commit (meaning u.job) c.args.setup bytes before at u e.given.1 (e.restored told) (e.opens told) (e.logs_stay told) (e.messages shown) e.start e.within e.outputs e.unsent image done)
     ])))
