@@ -6,8 +6,8 @@
 Each try begins with a folder that was run once, to which messages were added. The program is started on it and killed. Its
 files must then restore to the checkpoint before or to the next one, with just that checkpoint's counts, and the output must
 have what it had, or that followed by all that the added messages send. Run again, the program must come to the input's end and
-print the report of that, or refuse a changelog that is ahead of its checkpoint (status 6), which the program can't take back
-yet.
+print the report of that. Where the changelog was ahead of its checkpoint, it must first have taken the records behind the
+checkpoint's count back: each of their keys, in order, with its value at the checkpoint.
 
 A killed process leaves what it wrote, so this is no test of a loss of power.
 """
@@ -101,7 +101,7 @@ class Tries:
             sys.stdout = stdout
 
     def restored(self, folder):
-        """The last checkpoint's number, and whether its changelog is ahead of it."""
+        """The last checkpoint's number, its changelog, and how many of its records the checkpoint counts."""
         task = os.path.join(folder, "tasks", "0")
         number, mark = topicfile.checkpoints(os.path.join(task, "0.log"))[-1]
         count = mark["stores"][0][2][0]
@@ -112,7 +112,7 @@ class Tries:
         sent = log_of(os.path.join(task, "16.log"))
         assert sent in (self.sent[: 4 * BEFORE], self.sent), f"the output has {len(sent)} records"
         assert number == 1 or sent == self.sent, "the output lacks what the checkpoint covers"
-        return number, count < len(changes)
+        return number, changes, count
 
     def one(self, delay):
         folder = os.path.join(self.place, "try")
@@ -122,19 +122,21 @@ class Tries:
         time.sleep(delay)
         process.kill()
         process.wait()
-        number, ahead = self.restored(folder)
+        number, changes, count = self.restored(folder)
         status, out, err = run(self.program, folder)
-        if ahead:
-            assert status == 6, f"status {status} with a changelog ahead of its checkpoint"
-            assert out == b"" and err.startswith(b"tail: Partition 0: "), (out, err)
-            return "refused: the changelog was ahead"
         assert status == 0, f"status {status} after checkpoint {number}"
         left = BEFORE + ADDED - BEFORE * number
         assert (out, err) == (report(number + 1, left, BEFORE + ADDED, self.stores[2], 4 * left), b""), (out, err)
         last, mark = topicfile.checkpoints(os.path.join(folder, "tasks", "0", "0.log"))[-1]
         assert last == number + 1 and mark["inputs"][0][2] == BEFORE + ADDED, mark
-        assert folded(log_of(os.path.join(folder, "tasks", "0", "1.log"))) == self.stores[2], "the store behind the last run"
-        return f"went on behind checkpoint {number}"
+        tail = changes[count:]
+        reverted = changes + [(key, self.stores[number].get(key)) for key in sorted({key for key, _ in tail})]
+        behind = log_of(os.path.join(folder, "tasks", "0", "1.log"))
+        assert behind[: len(reverted)] == reverted, "the changelog's tail isn't taken back"
+        assert mark["stores"][0][2][0] == len(behind), "the checkpoint doesn't count the changelog"
+        assert folded(behind) == self.stores[2], "the store behind the last run"
+        taken = ", with a tail taken back" if tail else ""
+        return f"went on behind checkpoint {number}{taken}"
 
 
 def main(words):
