@@ -4,6 +4,7 @@ pub mod CrashSteps
 pub mod ArmSteps
 pub mod HostSteps
 pub mod Moments
+pub mod Places
 pub mod Replays
 pub mod SameDisks
 pub mod SlotSteps

@@ -24,20 +24,7 @@ impl Plain for DiskName {
     }
 
     fn same(&self, other: &Self) -> bool {
-        match (self, other) {
-            (DiskName::Task(a), DiskName::Task(b)) => *a == *b,
-            (
-                DiskName::Stream {
-                    system: s,
-                    stream: t,
-                },
-                DiskName::Stream {
-                    system: u,
-                    stream: v,
-                },
-            ) => s.same(u) && t.same(v),
-            _ => false,
-        }
+        self == other
     }
 }
 

@@ -1,10 +1,12 @@
 pub mod Asking
 pub mod Bounds
 pub mod Keys
+pub mod Limits
 pub mod Lists
 pub mod Numbers
 pub mod Outcome
 pub mod Parts
+pub mod Said
 pub mod Spelling
 pub mod Stores
 pub mod Streams

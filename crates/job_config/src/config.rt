@@ -3,7 +3,7 @@
 use samza_model::{Bin, Class, Items, OffsetDefault, StoreSetup};
 
 /// One input of a job.
-#[derive(Debug, Drop)]
+#[derive(Drop)]
 pub struct InputConfig {
     pub system: Bin,
     pub stream: Bin,
@@ -18,7 +18,7 @@ pub struct InputConfig {
 }
 
 /// The configuration of a job.
-#[derive(Debug, Drop)]
+#[derive(Drop)]
 pub struct JobConfig {
     /// The job's name: at most 255 characters from `!` to `~`.
     pub job: Bin,

@@ -9,7 +9,7 @@ use std::alloc::Global;
 use std::marker::Model;
 
 /// A key, as a list of 16-bit units. Contracts see the list.
-#[derive(Debug, Drop)]
+#[derive(Drop)]
 pub struct Key {
     units: Vec<u16>,
 }
@@ -26,7 +26,7 @@ impl Model for Key {
 pub type Asked = Vec<Key>;
 
 /// The keys of the job as a whole.
-#[derive(Clone, Copy, Debug, PartialEq, Eq)]
+#[derive(Clone, Copy)]
 pub enum Setting {
     JobName,
     TaskClass,
@@ -45,7 +45,7 @@ pub enum Setting {
 }
 
 /// The keys of a store.
-#[derive(Clone, Copy, Debug, PartialEq, Eq)]
+#[derive(Clone, Copy)]
 pub enum StoreSetting {
     Factory,
     Changelog,
@@ -54,7 +54,7 @@ pub enum StoreSetting {
 }
 
 /// The keys of a stream, its own and those of its system.
-#[derive(Clone, Copy, Debug, PartialEq, Eq)]
+#[derive(Clone, Copy)]
 pub enum StreamSetting {
     OwnStart,
     SystemStart,

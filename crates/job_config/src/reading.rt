@@ -79,10 +79,10 @@ impl JobConfig {
     {
         let mut asked = Vec::new(alloc);
         match table(alloc, pairs, &mut asked) {
-            Ok(config) => Ok(JobConfig {
-                unread: unread(alloc, pairs, asked.as_slice())?,
-                ..config
-            }),
+            Ok(mut config) => {
+                config.unread = unread(alloc, pairs, asked.as_slice())?;
+                Ok(config)
+            }
             Err(fault) => Err(written(alloc, fault)),
         }
     }

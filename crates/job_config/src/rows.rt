@@ -14,7 +14,7 @@ use samza_model::{Bin, Items, NoMemory};
 use std::alloc::{AllocError, AllocFailed, Global};
 
 /// Why a row has no value.
-#[derive(Debug, Drop)]
+#[derive(Drop)]
 pub enum RowFault {
     Bad { key: Key, what: What },
     NoMemory,

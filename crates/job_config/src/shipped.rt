@@ -1,7 +1,7 @@
 // The jobs that come with the container.
 
 /// A shipped job by its class, without what it is given.
-#[derive(Clone, Copy, Debug, PartialEq, Eq)]
+#[derive(Clone, Copy)]
 pub enum Shipped {
     WordCount,
     Dedupe,

@@ -1,10 +1,12 @@
 // The inputs of a configuration, and the rows of their streams' keys.
-ghost use Rattle.std.specs.Prelude.{◌≡◌, ◌==◌, ◌≤◌, IfOk, map, length, drop};
+ghost use Rattle.std.specs.Prelude.{◌≡◌, ◌==◌, ◌≤◌, IfOk, map, length, drop, option_copied};
 ghost use Rattle.std.specs.List.{position_or_len};
 ghost use Rattle.job_config.specs.Streams.{system_of, stream_of, new_stream, stream_row, input_of, stream_rows};
 ghost use Rattle.job_config.specs.Asking.{Gives, each};
+ghost use Rattle.job_config.specs.Said.{Puts, stream_said};
 
 use crate::config::InputConfig;
+use crate::faults::What;
 use crate::keys::{Asked, Key, StreamSetting};
 use crate::rows::{RowFault, answer};
 use crate::values::{flag, own_flag, priority, start};
@@ -13,7 +15,7 @@ use samza_model::{Bin, Items, NoMemory, OffsetDefault};
 use std::alloc::Global;
 
 /// An input, as far as its keys were read.
-#[derive(Debug, Drop)]
+#[derive(Drop)]
 pub struct Stream {
     pub system: Bin,
     pub stream: Bin,
@@ -75,50 +77,35 @@ fn new_streams(alloc: Global, names: &[Bin]) -> Result<Items<Stream>, NoMemory>
     Ok(Items::from_vec(streams))
 }
 
+/// Puts into a stream what the value of a key says of it.
+fn put_said(setting: StreamSetting, text: Option<&[u16]>, stream: &mut Stream) -> Result<(), What>
+    ensures { Puts stream.new result (stream_said setting stream.old (option_copied text.entry)) }
+{
+    match setting {
+        StreamSetting::OwnStart => stream.start = start(text)?,
+        StreamSetting::SystemStart => stream.start = stream.start.or(start(text)?),
+        StreamSetting::OwnReset => stream.reset = own_flag(text)?,
+        StreamSetting::SystemReset => stream.reset = stream.reset.or(own_flag(text)?),
+        StreamSetting::Bootstrap => stream.bootstrap = flag(text)?,
+        StreamSetting::Priority => stream.priority = priority(text, 1_000_000)?,
+    }
+    Ok(())
+}
+
 /// A row of a stream: the stream with what its key says.
-#[tactic(auto, unfolding(crate::specs::Streams::stream_row, crate::specs::Asking::row))]
 fn stream_row(
     alloc: Global,
     pairs: &Pairs,
     asked: &mut Asked,
     setting: StreamSetting,
-    stream: Stream,
+    mut stream: Stream,
 ) -> Result<Stream, RowFault>
     ensures { Gives asked.new.items result (stream_row pairs.now setting stream asked.old.items) }
 {
     let key = Key::of_stream(alloc, setting, stream.system.bytes(), stream.stream.bytes())?;
-    let text = key.value_in(pairs);
-    match setting {
-        StreamSetting::OwnStart => {
-            let start = answer(asked, key, start(text))?;
-            Ok(Stream { start, ..stream })
-        }
-        StreamSetting::SystemStart => {
-            let of_system = answer(asked, key, start(text))?;
-            let start = stream.start.or(of_system);
-            Ok(Stream { start, ..stream })
-        }
-        StreamSetting::OwnReset => {
-            let reset = answer(asked, key, own_flag(text))?;
-            Ok(Stream { reset, ..stream })
-        }
-        StreamSetting::SystemReset => {
-            let of_system = answer(asked, key, own_flag(text))?;
-            let reset = stream.reset.or(of_system);
-            Ok(Stream { reset, ..stream })
-        }
-        StreamSetting::Bootstrap => {
-            let bootstrap = answer(asked, key, flag(text))?;
-            Ok(Stream {
-                bootstrap,
-                ..stream
-            })
-        }
-        StreamSetting::Priority => {
-            let priority = answer(asked, key, priority(text, 1_000_000))?;
-            Ok(Stream { priority, ..stream })
-        }
-    }
+    let said = put_said(setting, key.value_in(pairs), &mut stream);
+    answer(asked, key, said)?;
+    Ok(stream)
 }
 
 /// A row of each stream.

@@ -4,6 +4,7 @@ pub mod Fields
 pub mod Laws
 mod Front
 mod Loop
+mod Spelled
 mod Stored
 mod Sums
 mod Whole

@@ -1,5 +1,6 @@
 // The frame of records.
 ghost use Rattle.std.specs.Prelude.{◌≡◌, ◌++◌, ◌+◌, ◌^◌, ◌<◌, length, IfOk, OnOk};
+ghost use Rattle.std.specs.Int.{to_be_bytes, w32};
 ghost use Rattle.samza_model.specs.Frames.{text_bytes, record_bytes, body_bytes};
 ghost use Rattle.samza_model.specs.Limits.{IsWithinLimits, IsFrameable};
 ghost use Rattle.log_frame.specs.Frame.{IsFrame};
@@ -8,11 +9,17 @@ use crate::Frame;
 use samza_model::{NoMemory, Record};
 use std::alloc::{AllocError, Global};
 
+fn put_number(out: &mut Vec<u8>, number: u32) -> Result<(), AllocError>
+    ensures { OnOk result (out.new.items ≡ out.old.items ++ to_be_bytes w32 number) }
+{
+    out.extend_from_slice(&number.to_be_bytes())
+}
+
 fn put_text(out: &mut Vec<u8>, text: &[u8]) -> Result<(), AllocError>
     requires { length text.now < 2 ^ 32 }
     ensures { OnOk result (out.new.items ≡ out.old.items ++ text_bytes text.now) }
 {
-    out.extend_from_slice(&(text.len() as u32).to_be_bytes())?;
+    put_number(out, text.len() as u32)?;
     out.extend_from_slice(text)
 }
 
@@ -22,7 +29,7 @@ fn put_record(out: &mut Vec<u8>, r: &Record) -> Result<(), AllocError>
 {
     put_text(out, r.key.bytes())?;
     match &r.value {
-        None => out.extend_from_slice(&u32::MAX.to_be_bytes()),
+        None => put_number(out, u32::MAX),
         Some(value) => put_text(out, value.bytes()),
     }
 }
@@ -59,8 +66,8 @@ pub fn encode(alloc: Global, records: &[Record]) -> Result<Frame, NoMemory>
     let len = body_len(records);
     let count = records.len() as u32;
     let mut out = Vec::with_capacity(alloc, len as usize + 9)?;
-    out.extend_from_slice(&len.to_be_bytes())?;
-    out.extend_from_slice(&count.to_be_bytes())?;
+    put_number(&mut out, len)?;
+    put_number(&mut out, count)?;
     for r in records {
         put_record(&mut out, r)?;
     }

@@ -10,7 +10,7 @@ use crate::unit::Placed;
 use std::alloc::{AllocError, Global};
 
 /// What a natural line makes of the logical line before it.
-#[derive(Debug, Drop)]
+#[derive(Drop)]
 pub enum Joined {
     /// A blank line, or a comment.
     PassedOver,

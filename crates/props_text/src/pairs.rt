@@ -13,7 +13,7 @@ use std::collections::BTreeMap;
 use std::marker::Model;
 
 /// A key and its value.
-#[derive(Debug, Drop)]
+#[derive(Drop)]
 pub struct Pair {
     pub key: Vec<u16>,
     pub value: Vec<u16>,
@@ -23,7 +23,7 @@ pub struct Pair {
 pub type Tree = BTreeMap<Vec<u16>, Vec<u16>>;
 
 /// A map from lists of 16-bit units to such lists, in the order of its keys' units.
-#[derive(Debug, Drop)]
+#[derive(Drop)]
 pub struct Pairs {
     pairs: Vec<Pair>,
 }

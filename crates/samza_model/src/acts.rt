@@ -47,11 +47,7 @@ impl Plain for Scope {
     }
 
     fn same(&self, other: &Self) -> bool {
-        match (self, other) {
-            (Scope::CurrentTask, Scope::CurrentTask) => true,
-            (Scope::AllTasks, Scope::AllTasks) => true,
-            _ => false,
-        }
+        self == other
     }
 }
 
@@ -87,35 +83,7 @@ impl Plain for Act {
     }
 
     fn same(&self, other: &Self) -> bool {
-        match (self, other) {
-            (Act::Get { store: s, key: k }, Act::Get { store: t, key: l }) => *s == *t && k.same(l),
-            (Act::Next { store: s, key: k }, Act::Next { store: t, key: l }) => {
-                *s == *t && k.same(l)
-            }
-            (
-                Act::Put {
-                    store: s,
-                    key: k,
-                    value: v,
-                },
-                Act::Put {
-                    store: t,
-                    key: l,
-                    value: w,
-                },
-            ) => *s == *t && k.same(l) && v.same(w),
-            (Act::Delete { store: s, key: k }, Act::Delete { store: t, key: l }) => {
-                *s == *t && k.same(l)
-            }
-            (Act::Send { output: o, body: b }, Act::Send { output: p, body: c }) => {
-                *o == *p && b.same(c)
-            }
-            (Act::AskCommit(a), Act::AskCommit(b)) => a.same(b),
-            (Act::AskShutdown(a), Act::AskShutdown(b)) => a.same(b),
-            (Act::Done, Act::Done) => true,
-            (Act::Fail(a), Act::Fail(b)) => *a == *b,
-            _ => false,
-        }
+        self == other
     }
 }
 
@@ -130,12 +98,6 @@ impl Plain for Answer {
     }
 
     fn same(&self, other: &Self) -> bool {
-        match (self, other) {
-            (Answer::Found(a), Answer::Found(b)) => a.same(b),
-            (Answer::Pair(k, v), Answer::Pair(l, w)) => k.same(l) && v.same(w),
-            (Answer::Missing, Answer::Missing) => true,
-            (Answer::Noted, Answer::Noted) => true,
-            _ => false,
-        }
+        self == other
     }
 }

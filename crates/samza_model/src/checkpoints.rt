@@ -39,9 +39,7 @@ impl Plain for InputMark {
     }
 
     fn same(&self, other: &Self) -> bool {
-        self.partition == other.partition
-            && self.next == other.next
-            && self.stream.same(&other.stream)
+        self == other
     }
 }
 
@@ -54,7 +52,7 @@ impl Plain for StoreMark {
     }
 
     fn same(&self, other: &Self) -> bool {
-        self.count == other.count && self.name.same(&other.name)
+        self == other
     }
 }
 

@@ -29,12 +29,6 @@ impl Plain for Class {
     }
 
     fn same(&self, other: &Self) -> bool {
-        match (self, other) {
-            (Class::WordCount, Class::WordCount) => true,
-            (Class::Dedupe, Class::Dedupe) => true,
-            (Class::SessionCount, Class::SessionCount) => true,
-            (Class::TableJoin { table: a }, Class::TableJoin { table: b }) => a.same(b),
-            _ => false,
-        }
+        self == other
     }
 }

@@ -39,7 +39,7 @@ impl Plain for Record {
     }
 
     fn same(&self, other: &Self) -> bool {
-        self.key.same(&other.key) && self.value.same(&other.value)
+        self == other
     }
 }
 
@@ -53,9 +53,7 @@ impl Plain for Ssp {
     }
 
     fn same(&self, other: &Self) -> bool {
-        self.partition == other.partition
-            && self.stream.same(&other.stream)
-            && self.system.same(&other.system)
+        self == other
     }
 }
 
@@ -65,7 +63,7 @@ impl Plain for TaskName {
     }
 
     fn same(&self, other: &Self) -> bool {
-        self.0 == other.0
+        self == other
     }
 }
 
@@ -79,6 +77,6 @@ impl Plain for Envelope {
     }
 
     fn same(&self, other: &Self) -> bool {
-        self.offset == other.offset && self.ssp.same(&other.ssp) && self.body.same(&other.body)
+        self == other
     }
 }

@@ -55,11 +55,7 @@ impl Plain for OffsetDefault {
     }
 
     fn same(&self, other: &Self) -> bool {
-        match (self, other) {
-            (OffsetDefault::Oldest, OffsetDefault::Oldest) => true,
-            (OffsetDefault::Upcoming, OffsetDefault::Upcoming) => true,
-            _ => false,
-        }
+        self == other
     }
 }
 

@@ -8,7 +8,7 @@ use Rattle.samza_model.specs.Content.{Content, foldrec}
 use Rattle.samza_model.specs.declared.messages.Record.{Record}
 use Rattle.samza_model.specs.Files.{Image, checkpoint_file, changelog_file, output_file}
 use Rattle.samza_model.specs.Logs.{joined, HasFrames}
-use Rattle.samza_model.specs.Restored.{IsNamed, count_at, next_at, marked_place, setup_place}
+use Rattle.samza_model.specs.Restored.{IsNamed, Restores, count_at, next_at, marked_place, setup_place}
 use Rattle.changelog.specs.Folds.{reverts_of}
 use Rattle.kv_store.specs.Tracked.{Tracked}
 use Rattle.log_frame.specs.Cuts.{IsCut}
@@ -23,14 +23,21 @@ use Rattle.restore_trim.proofs.Growing.{open_has as open_frames}
 use Rattle.task_unit.proofs.Committed.{open_has}
 use Rattle.task_unit.proofs.Made.{content_at}
 
--- what was restored, told with equal lists
-pub restored_as : (s : Setup) (before reads : Image) (images : Image → Type 0) (mark : Option Checkpoint) (marks : Log) (changelogs changelogs' outputs outputs' : List Log) (stores stores' : List Content)
-    → changelogs' ≡ changelogs → outputs' ≡ outputs → stores' ≡ stores
-    → IsRestored s before reads images mark marks changelogs outputs stores → IsRestored s before reads images mark marks changelogs' outputs' stores'
-restored_as s before reads images mark marks changelogs changelogs' outputs outputs' stores stores' same_changelogs same_outputs same_stores r =
-    subst (λ (l : List Log). IsRestored s before reads images mark marks l outputs' stores') (sym same_changelogs)
+-- what was restored, told with equal parts
+pub restored_as : (s : Setup) (before reads : Image) (images : Image → Type 0) (mark mark' : Option Checkpoint) (marks : Log) (changelogs outputs : List Log) (logs : Logs) (stores stores' : List Content)
+    → mark' ≡ mark → (logs.marks ≡ marks) × (logs.changelogs.items ≡ changelogs) × (logs.outputs.items ≡ outputs) → stores' ≡ stores
+    → IsRestored s before reads images mark marks changelogs outputs stores → IsRestored s before reads images mark' logs.marks logs.changelogs.items logs.outputs.items stores'
+restored_as s before reads images mark mark' marks changelogs outputs logs stores stores' same_mark (same_marks, same_changelogs, same_outputs) same_stores r =
+    subst (λ (m : Option Checkpoint). IsRestored s before reads images m logs.marks logs.changelogs.items logs.outputs.items stores') (sym same_mark)
+    (subst (λ (l : Log). IsRestored s before reads images mark l logs.changelogs.items logs.outputs.items stores') (sym same_marks)
+    (subst (λ (l : List Log). IsRestored s before reads images mark marks l logs.outputs.items stores') (sym same_changelogs)
     (subst (λ (l : List Log). IsRestored s before reads images mark marks changelogs l stores') (sym same_outputs)
-    (subst (λ (cs : List Content). IsRestored s before reads images mark marks changelogs outputs cs) (sym same_stores) r))
+    (subst (λ (cs : List Content). IsRestored s before reads images mark marks changelogs outputs cs) (sym same_stores) r))))
+
+-- a checkpoint and contents that an image restores to, told with equal ones
+pub restores_as : (s : Setup) (image : Image) (mark mark' : Option Checkpoint) (stores stores' : List Content) → mark' ≡ mark → stores' ≡ stores → Restores s image mark stores → Restores s image mark' stores'
+restores_as s image mark mark' stores stores' same_mark same_stores r =
+    subst (λ (m : Option Checkpoint). Restores s image m stores') (sym same_mark) (subst (λ (cs : List Content). Restores s image mark cs) (sym same_stores) r)
 
 pub stands_kept : (reads : Image) (images : Image → Type 0) (s : Setup) (logs : Logs) (mark : Option Checkpoint) (h h' : Held) → OnDisk reads images s logs mark h → KeepsClean h h' → OnDisk reads images s logs mark h'
 stands_kept reads images s logs mark h h' on clean = record {

@@ -4,7 +4,8 @@ ghost use Rattle.std.specs.Option.{option_copied};
 ghost use Rattle.std.specs.FinMap as map;
 ghost use Rattle.samza_model.specs.Content.{changed, answer_of, found, found_pair, next_pair};
 ghost use Rattle.samza_model.specs.Limits.{act_fits, key_fits, value_fits, IsWithinLimits};
-ghost use Rattle.samza_model.specs.Runs.{end_at, run_on, runs};
+ghost use Rattle.samza_model.specs.declared.acts.Act.{Act as ActValue};
+ghost use Rattle.samza_model.specs.Runs.{End, end_at, run_on, runs};
 ghost use Rattle.task_unit.specs.Acting.{held, undos_of, GoesBack, with_stored, with_sent, IsSized, SameSizes, KeepsClean, IsTouched, AreTouched, end_seen};
 ghost use Rattle.task_unit.specs.Touched.{acts_of};
 ghost use Rattle.samza_model.specs.declared.turns.Why.{Why};
@@ -235,20 +236,17 @@ impl Holdings {
     {
         let mut answers = Vec::new(self.alloc);
         for _made in 0..1_023u32 {
-            let act = job.act(self.alloc, envelope, answers.as_slice())?;
-            match course_at(setup, &act) {
-                Course::GoesOn => {}
-                Course::Done => return Ok(None),
-                Course::Failed(why) => return Ok(Some(why)),
+            match next_step(self.alloc, job, setup, envelope, answers.as_slice())? {
+                Step::Makes(act) => {
+                    let answer = self.make(setup, act)?;
+                    answers.push(answer)?;
+                }
+                Step::Ends(end) => return Ok(end),
             }
-            let answer = self.make(setup, act)?;
-            answers.push(answer)?;
         }
-        let act = job.act(self.alloc, envelope, answers.as_slice())?;
-        match course_at(setup, &act) {
-            Course::GoesOn => Ok(Some(Why::TooMany)),
-            Course::Done => Ok(None),
-            Course::Failed(why) => Ok(Some(why)),
+        match next_step(self.alloc, job, setup, envelope, answers.as_slice())? {
+            Step::Makes(_over) => Ok(Some(Why::TooMany)),
+            Step::Ends(end) => Ok(end),
         }
     }
 
@@ -339,5 +337,30 @@ fn course_at(setup: &Setup, act: &Act) -> Course
                 Course::Failed(Why::Limits)
             }
         }
+    }
+}
+
+/// What a job does next: an act that is made and answered, or the turn's end.
+enum Step {
+    Makes(Act),
+    Ends(Option<Why>),
+}
+
+/// What the job does behind these answers.
+fn next_step<J: Job>(
+    alloc: Global,
+    job: &J,
+    setup: &Setup,
+    envelope: &Envelope,
+    answers: &[Answer],
+) -> Result<Step, NoMemory>
+    ensures makes { IfOk result (λ n. (a : ActValue) → n ≡ Step.Makes a → (a ≡ (J.meaning (J.plain job.now)).act envelope.now answers.now) × (act_fits setup.now a ≡ true) × (end_at setup.now a ≡ None)) }
+    ensures ends { IfOk result (λ n. (end : End) → n ≡ Step.Ends end → end_at setup.now ((J.meaning (J.plain job.now)).act envelope.now answers.now) ≡ Some end) }
+{
+    let act = job.act(alloc, envelope, answers)?;
+    match course_at(setup, &act) {
+        Course::GoesOn => Ok(Step::Makes(act)),
+        Course::Done => Ok(Step::Ends(None)),
+        Course::Failed(why) => Ok(Step::Ends(Some(why))),
     }
 }

@@ -27,7 +27,7 @@ use changelog::Changelog;
 use disk_model::{Disk, Shelf};
 use kv_store::{Table, TrackedTable};
 use output_log::Outputs;
-use restore_trim::restore;
+use restore_trim::{Restored, restore};
 use samza_model::{
     Checkpoint, Envelope, InputSetup, Items, NoMemory, OffsetDefault, Plain, Record, Setup,
 };
@@ -176,6 +176,41 @@ fn read_input<S: Shelf>(
     }
 }
 
+/// What a unit begins with, of what was restored and of its input's messages.
+fn begin(
+    alloc: Global,
+    restored: Restored,
+    outputs: u32,
+    messages: Vec<Record>,
+    next: u64,
+) -> Result<Started, NoMemory>
+    requires { All AreWithinLimits restored.tables }
+    ensures logs { IfOk result (λ r. (r.logs.marks ≡ restored.marks) × (r.logs.changelogs.items ≡ restored.changelogs) × (r.logs.outputs.items ≡ restored.outputs)) }
+    ensures mark { IfOk result (λ r. r.mark ≡ restored.checkpoint) }
+    ensures contents { IfOk result (λ r. contents_of (held r.holdings).stores ≡ restored.tables) }
+    ensures clean { IfOk result (λ r. AreClean (held r.holdings).stores) }
+    ensures outputs { IfOk result (λ r. length (held r.holdings).unsent ≡ outputs) }
+    ensures none { IfOk result (λ r. (j : ℕ) → j < outputs → sent_at (held r.holdings).unsent j ≡ []) }
+    ensures none_before { IfOk result (λ r. (j : ℕ) → j < outputs → appended_at (held r.holdings).cleared j ≡ 0) }
+    ensures idle { IfOk result (λ r. undos_of r.holdings ≡ []) }
+    ensures input { IfOk result (λ r. (r.messages.items ≡ messages.items) × (r.next ≡ next)) }
+{
+    let stores = track_all(alloc, restored.tables)?;
+    let changelogs = logs_of(alloc, restored.changelogs)?;
+    let holdings = hold(alloc, stores, outputs)?;
+    Ok(Started {
+        logs: Logs {
+            marks: restored.marks,
+            changelogs,
+            outputs: restored.outputs.into_vec(),
+        },
+        mark: restored.checkpoint,
+        holdings,
+        messages,
+        next,
+    })
+}
+
 /// Restores the task, reads its input, and finds the input's first message to process.
 pub(crate) fn start<D: Disk, S: Shelf>(
     alloc: Global,
@@ -226,22 +261,9 @@ pub(crate) fn start<D: Disk, S: Shelf>(
         Ok(next) => next,
         Err(fault) => return Err(fault),
     };
-    let stores = track_all(alloc, restored.tables)?;
-    let changelogs = logs_of(alloc, restored.changelogs)?;
     let outputs = setup.outputs.as_slice().len() as u32;
-    let holdings = match hold(alloc, stores, outputs) {
-        Ok(holdings) => holdings,
-        Err(_) => return Err(OpenFault::NoMemory),
-    };
-    Ok(Started {
-        logs: Logs {
-            marks: restored.marks,
-            changelogs,
-            outputs: restored.outputs.into_vec(),
-        },
-        mark: restored.checkpoint,
-        holdings,
-        messages,
-        next,
-    })
+    match begin(alloc, restored, outputs, messages, next) {
+        Ok(started) => Ok(started),
+        Err(_) => Err(OpenFault::NoMemory),
+    }
 }

@@ -21,6 +21,26 @@ module _ {D : Type 0} (reads : D → Image) (number : D → ℕ) (images : D →
     read = read;
   }
 
+  -- one device call that changes nothing
+  pub one_rest : (old new : D)
+      → ((c : Image) → since old (number old) c → images old c)
+      → Joins (number old) (since old) (since new) (images new)
+      → number old ≤ number new
+      → Keeps (images old) (images new)
+      → Keeps (images new) (images old)
+      → images new (reads new)
+      → reads new ≡ reads old
+      → Rests reads number images since old new
+  one_rest old new only time le kept none_lost read same = record {
+    moves = one_call old new Same only (λ c. refl) time le (λ c left. (c, kept c left, refl)) read;
+    reads_are = same;
+    none_lost = none_lost;
+  }
+
+  -- nothing new is left where nothing but reads was called
+  pub images_kept : (old new : D) → Rests reads number images since old new → Keeps (images old) (images new)
+  images_kept old new r i left = let p = r.moves.now i left in subst (images old) (sym p.2) p.1
+
   -- no device call
   pub no_call : (old : D) (step : Image → Image → Type 0)
       → ((c : Image) → since old (number old) c → images old c)

@@ -1,83 +1,97 @@
-use Rattle.std.proofs.Common.{◌≡◌, ◌∙◌, ap, sym, subst, List, length, Some, None, inl, inr, arith}
+use Rattle.std.proofs.Common.{◌≡◌, ◌≤◌, ◌<◌, ◌∙◌, ap, sym, subst, List, length, Option, Some, None, inl, inr, arith}
 use Rattle.samza_model.specs.declared.messages.Record.{Record}
+use Rattle.samza_model.specs.declared.checkpoints.Checkpoint.{Checkpoint}
 use Rattle.samza_model.specs.declared.setups.InputSetup.{InputSetup}
-use Rattle.samza_model.specs.Content.{Content}
-use Rattle.samza_model.specs.Restored.{Restores, next_at, start_of}
+use Rattle.samza_model.specs.Restored.{next_at, start_of}
 use Rattle.restore_trim.specs.declared.faults.OpenFault.TheVariants.{Ahead}
-use Rattle.restore_trim.specs.Standing.{IsRestored}
-use Rattle.task_unit.specs.declared.writing.Logs.{Logs}
+use Rattle.topic_log.specs.declared.logs.Log.{Log}
+use Rattle.topic_log.specs.Opened.{is_broken}
+use Rattle.samza_model.specs.Logs.{HasLog}
+use Rattle.restore_trim.specs.Refused.{StoresOpen}
+use Rattle.restore_trim.specs.Standing.{IsRestored, AllSound}
+use Rattle.std.proofs.lemmas.List.{length-map}
+use Rattle.kv_store.specs.Tracked.{Tracked}
 use Rattle.task_unit.specs.Acting.{held}
 use Rattle.task_unit.specs.Held.{contents_of}
 use Rattle.task_unit.specs.Inputs.{WhyNoInput}
-use Rattle.task_unit.proofs.Begun.{restored_as, stands_restored, whole_restored, logs_stay, next_kept}
+use Rattle.task_unit.specs.Units.{input_of}
+use Rattle.task_unit.proofs.Begun.{restored_as, restores_as, stands_restored, whole_restored, logs_stay, next_kept}
 use Rattle.task_unit.proofs.beginning.start.Goals as goal
 
-pub returns-clause-on_disk : goal.returns-clause-on_disk
-returns-clause-on_disk g c = λ told.
+pub returns-in-Ok-begin-clause-on_disk : goal.returns-in-Ok-begin-clause-on_disk
+returns-in-Ok-begin-clause-on_disk g c = λ told.
     let disk = g.D.Disk in
     let s = c.args.setup.now in
     let r = c.in-Ok.restored in
-    let h = held c.in-Ok-hold.holdings in
+    let u = c.in-Ok-begin.started in
+    let made = c.in-Ok-begin.ensures in
     let before = disk.reads c.args.disk.now in
     let reads = disk.reads c.restore.new.disk in
     let images = disk.images c.restore.new.disk in
-    let logs : Logs = record { marks = r.marks; changelogs = c.in_ok-changelogs.changelogs; outputs = c.into_vec.result } in
-    let same : contents_of h.stores ≡ r.tables = ap contents_of c.in-Ok-hold.ensures.stores ∙ c.in_ok-stores.ensures.contents in
-    let stand : IsRestored s before reads images r.checkpoint logs.marks logs.changelogs.items logs.outputs.items (contents_of h.stores) =
-    restored_as s before reads images r.checkpoint r.marks r.changelogs logs.changelogs.items r.outputs logs.outputs.items r.tables (contents_of h.stores) c.in_ok-changelogs.ensures c.into_vec.ensures same (c.in-Ok.ensures.stands told) in
-    stands_restored s before reads images r.checkpoint logs h stand
+    let stores = contents_of (held u.holdings).stores in
+    let stand : IsRestored s before reads images u.mark u.logs.marks u.logs.changelogs.items u.logs.outputs.items stores =
+    restored_as s before reads images r.checkpoint u.mark r.marks r.changelogs r.outputs u.logs r.tables stores made.mark made.logs made.contents (c.in-Ok.ensures.stands told) in
+    stands_restored s before reads images u.mark u.logs (held u.holdings) stand
 
-pub returns-clause-logs_stay : goal.returns-clause-logs_stay
-returns-clause-logs_stay g c = λ told.
+pub returns-in-Ok-begin-clause-logs_stay : goal.returns-in-Ok-begin-clause-logs_stay
+returns-in-Ok-begin-clause-logs_stay g c = λ told.
     let disk = g.D.Disk in
     let s = c.args.setup.now in
     let r = c.in-Ok.restored in
-    let h = held c.in-Ok-hold.holdings in
+    let u = c.in-Ok-begin.started in
+    let made = c.in-Ok-begin.ensures in
     let before = disk.reads c.args.disk.now in
     let reads = disk.reads c.restore.new.disk in
     let images = disk.images c.restore.new.disk in
-    let logs : Logs = record { marks = r.marks; changelogs = c.in_ok-changelogs.changelogs; outputs = c.into_vec.result } in
-    let same : contents_of h.stores ≡ r.tables = ap contents_of c.in-Ok-hold.ensures.stores ∙ c.in_ok-stores.ensures.contents in
-    let stand : IsRestored s before reads images r.checkpoint logs.marks logs.changelogs.items logs.outputs.items (contents_of h.stores) =
-    restored_as s before reads images r.checkpoint r.marks r.changelogs logs.changelogs.items r.outputs logs.outputs.items r.tables (contents_of h.stores) c.in_ok-changelogs.ensures c.into_vec.ensures same (c.in-Ok.ensures.stands told) in
-    logs_stay s before reads images r.checkpoint logs h stand
+    let stores = contents_of (held u.holdings).stores in
+    let stand : IsRestored s before reads images u.mark u.logs.marks u.logs.changelogs.items u.logs.outputs.items stores =
+    restored_as s before reads images r.checkpoint u.mark r.marks r.changelogs r.outputs u.logs r.tables stores made.mark made.logs made.contents (c.in-Ok.ensures.stands told) in
+    logs_stay s before reads images u.mark u.logs (held u.holdings) stand
 
-pub returns-clause-whole : goal.returns-clause-whole
-returns-clause-whole g c = λ told.
+pub returns-in-Ok-begin-clause-whole : goal.returns-in-Ok-begin-clause-whole
+returns-in-Ok-begin-clause-whole g c = λ told.
     let disk = g.D.Disk in
     let s = c.args.setup.now in
     let r = c.in-Ok.restored in
-    let h = held c.in-Ok-hold.holdings in
+    let u = c.in-Ok-begin.started in
+    let made = c.in-Ok-begin.ensures in
     let before = disk.reads c.args.disk.now in
     let reads = disk.reads c.restore.new.disk in
     let images = disk.images c.restore.new.disk in
-    let logs : Logs = record { marks = r.marks; changelogs = c.in_ok-changelogs.changelogs; outputs = c.into_vec.result } in
-    let same : contents_of h.stores ≡ r.tables = ap contents_of c.in-Ok-hold.ensures.stores ∙ c.in_ok-stores.ensures.contents in
-    let stand : IsRestored s before reads images r.checkpoint logs.marks logs.changelogs.items logs.outputs.items (contents_of h.stores) =
-    restored_as s before reads images r.checkpoint r.marks r.changelogs logs.changelogs.items r.outputs logs.outputs.items r.tables (contents_of h.stores) c.in_ok-changelogs.ensures c.into_vec.ensures same (c.in-Ok.ensures.stands told) in
-    whole_restored s before reads images r.checkpoint logs h stand
+    let stores = contents_of (held u.holdings).stores in
+    let stand : IsRestored s before reads images u.mark u.logs.marks u.logs.changelogs.items u.logs.outputs.items stores =
+    restored_as s before reads images r.checkpoint u.mark r.marks r.changelogs r.outputs u.logs r.tables stores made.mark made.logs made.contents (c.in-Ok.ensures.stands told) in
+    whole_restored s before reads images u.mark u.logs (held u.holdings) stand
 
-pub returns-clause-restored : goal.returns-clause-restored
-returns-clause-restored g c = λ told.
-    let disk = g.D.Disk in
+pub returns-in-Ok-begin-clause-restored : goal.returns-in-Ok-begin-clause-restored
+returns-in-Ok-begin-clause-restored g c = λ told.
     let r = c.in-Ok.restored in
-    let same : contents_of (held c.in-Ok-hold.holdings).stores ≡ r.tables = ap contents_of c.in-Ok-hold.ensures.stores ∙ c.in_ok-stores.ensures.contents in
-    subst (λ (cs : List Content). Restores c.args.setup.now (disk.reads c.args.disk.now) r.checkpoint cs) (sym same) (c.in-Ok.ensures.restored told)
+    let u = c.in-Ok-begin.started in
+    let made = c.in-Ok-begin.ensures in
+    restores_as c.args.setup.now (g.D.Disk.reads c.args.disk.now) r.checkpoint u.mark r.tables (contents_of (held u.holdings).stores) made.mark made.contents (c.in-Ok.ensures.restored told)
 
-pub returns-clause-durable : goal.returns-clause-durable
-returns-clause-durable g c = λ told f now.
+pub returns-in-Ok-begin-clause-durable : goal.returns-in-Ok-begin-clause-durable
+returns-in-Ok-begin-clause-durable g c = λ told f now.
     let r = c.in-Ok.restored in
-    let same : contents_of (held c.in-Ok-hold.holdings).stores ≡ r.tables = ap contents_of c.in-Ok-hold.ensures.stores ∙ c.in_ok-stores.ensures.contents in
-    subst (λ (cs : List Content). Restores c.args.setup.now f r.checkpoint cs) (sym same) (c.in-Ok.ensures.durable told f now)
+    let u = c.in-Ok-begin.started in
+    let made = c.in-Ok-begin.ensures in
+    restores_as c.args.setup.now f r.checkpoint u.mark r.tables (contents_of (held u.holdings).stores) made.mark made.contents (c.in-Ok.ensures.durable told f now)
 
-pub returns-clause-start : goal.returns-clause-start
-returns-clause-start g c =
+pub returns-in-Ok-begin-clause-start : goal.returns-in-Ok-begin-clause-start
+returns-in-Ok-begin-clause-start g c =
     let s = c.args.setup.now in
     let mark = c.in-Ok.restored.checkpoint in
     let records = c.in-Ok-read_input.messages.items in
+    let next = c.in-Ok-first_offset.next in
+    let u = c.in-Ok-begin.started in
+    let made = c.in-Ok-begin.ensures in
+    let here : next ≡ start_of (next_at mark 0) (input_of s) (record { first = 0; records = records }) =
     c.in-Ok-first_offset.ensures.start records (ap (λ (l : List Record). length l) c.as_slice.ensures.value)
     ∙ ap (λ k. start_of k c.first_input-input.result.now (record { first = 0; records = records })) (next_kept s mark c.kept_offset.result c.requires.one_input c.in-Ok.ensures.named c.kept_offset.ensures.kept c.kept_offset.ensures.none)
-    ∙ ap (λ i. start_of (next_at mark 0) i (record { first = 0; records = records })) c.first_input-input.ensures
+    ∙ ap (λ i. start_of (next_at mark 0) i (record { first = 0; records = records })) c.first_input-input.ensures in
+    made.input.1
+    ∙ subst (λ (m : Option Checkpoint). next ≡ start_of (next_at m 0) (input_of s) (record { first = 0; records = u.messages.items })) (sym made.mark)
+    (subst (λ (l : List Record). next ≡ start_of (next_at mark 0) (input_of s) (record { first = 0; records = l })) (sym made.input.0) here)
 
 pub returns-in-Err-clause-why : goal.returns-in-Err-clause-why
 returns-in-Err-clause-why g c = inl c.in-Err.ensures.why
@@ -108,3 +122,76 @@ returns-in-Err-first_offset-clause-why g c =
       past = omega (arith, a.4, end);
       fault = a.1 ∙ ap (λ n. Ahead (Some 0) None a.0 n) end;
     }))
+
+pub returns-in-Ok-begin-clause-opens : goal.returns-in-Ok-begin-clause-opens
+returns-in-Ok-begin-clause-opens g c = λ told. subst (λ (m : Option Checkpoint). StoresOpen (g.D.Disk.reads c.args.disk.now) m (length c.args.setup.now.stores)) (sym c.in-Ok-begin.ensures.mark) (c.in-Ok.ensures.opens told).stores
+
+pub returns-in-Ok-begin-clause-messages : goal.returns-in-Ok-begin-clause-messages
+returns-in-Ok-begin-clause-messages g c = λ told. subst (λ (l : List Record). HasLog (g.S.Shelf.bytes c.args.shelf.now) l) (sym c.in-Ok-begin.ensures.input.0) (c.in-Ok-read_input.ensures.log told)
+
+pub returns-in-Ok-begin-clause-within : goal.returns-in-Ok-begin-clause-within
+returns-in-Ok-begin-clause-within g c =
+    let next = c.in-Ok-first_offset.next in
+    let here = subst (λ (l : List Record). next ≤ length l) c.as_slice.ensures.value c.in-Ok-first_offset.ensures.within in
+    subst (λ n. n ≤ length c.in-Ok-begin.started.messages.items) (sym c.in-Ok-begin.ensures.input.1) (subst (λ (l : List Record). next ≤ length l) (sym c.in-Ok-begin.ensures.input.0) here)
+
+pub returns-in-Ok-begin-clause-changelogs : goal.returns-in-Ok-begin-clause-changelogs
+returns-in-Ok-begin-clause-changelogs g c = ap (λ (l : List Log). length l) c.in-Ok-begin.ensures.logs.1 ∙ c.in-Ok.ensures.sizes.1
+
+pub returns-in-Ok-begin-clause-outputs : goal.returns-in-Ok-begin-clause-outputs
+returns-in-Ok-begin-clause-outputs g c = ap (λ (l : List Log). length l) c.in-Ok-begin.ensures.logs.2 ∙ c.in-Ok.ensures.sizes.2
+
+pub returns-in-Ok-begin-clause-sound : goal.returns-in-Ok-begin-clause-sound
+returns-in-Ok-begin-clause-sound g c =
+    let made = c.in-Ok-begin.ensures in
+    let sound = c.in-Ok.ensures.sound in
+    record {
+      marks = ap is_broken made.logs.0 ∙ sound.0;
+      changelogs = subst AllSound (sym made.logs.1) sound.1;
+      outputs = subst AllSound (sym made.logs.2) sound.2;
+    }
+
+pub returns-in-Err-clause-device : goal.returns-in-Err-clause-device
+returns-in-Err-clause-device g c = λ is. inl (c.in-Err.ensures.device is)
+
+pub returns-in-Err-read_input-clause-device : goal.returns-in-Err-read_input-clause-device
+returns-in-Err-read_input-clause-device g c = λ is. inr (c.in-Err-read_input.ensures.device is)
+
+pub returns-in-Err-first_offset-clause-device : goal.returns-in-Err-first_offset-clause-device
+returns-in-Err-first_offset-clause-device g c = λ is. absurd (c.in-Err-first_offset.ensures.never is)
+
+pub returns-in-Ok-begin-clause-later : goal.returns-in-Ok-begin-clause-later
+returns-in-Ok-begin-clause-later g c = (c.restore.ensures.later, c.read_input.ensures.later)
+
+pub returns-in-Ok-begin-clause-shelf : goal.returns-in-Ok-begin-clause-shelf
+returns-in-Ok-begin-clause-shelf g c = (c.read_input.ensures.name, c.read_input.ensures.file)
+
+pub returns-in-Err-read_input-clause-later : goal.returns-in-Err-read_input-clause-later
+returns-in-Err-read_input-clause-later g c = (c.restore.ensures.later, c.read_input.ensures.later)
+
+pub returns-in-Err-read_input-clause-shelf : goal.returns-in-Err-read_input-clause-shelf
+returns-in-Err-read_input-clause-shelf g c = (c.read_input.ensures.name, c.read_input.ensures.file)
+
+pub returns-in-Err-first_offset-clause-later : goal.returns-in-Err-first_offset-clause-later
+returns-in-Err-first_offset-clause-later g c = (c.restore.ensures.later, c.read_input.ensures.later)
+
+pub returns-in-Err-first_offset-clause-shelf : goal.returns-in-Err-first_offset-clause-shelf
+returns-in-Err-first_offset-clause-shelf g c = (c.read_input.ensures.name, c.read_input.ensures.file)
+
+pub returns-in-Err-begin-clause-later : goal.returns-in-Err-begin-clause-later
+returns-in-Err-begin-clause-later g c = (c.restore.ensures.later, c.read_input.ensures.later)
+
+pub returns-in-Err-begin-clause-shelf : goal.returns-in-Err-begin-clause-shelf
+returns-in-Err-begin-clause-shelf g c = (c.read_input.ensures.name, c.read_input.ensures.file)
+
+pub returns-in-Ok-begin-clause-unsent : goal.returns-in-Ok-begin-clause-unsent
+returns-in-Ok-begin-clause-unsent g c = λ j lt. c.in-Ok-begin.ensures.none j (subst (λ n. j < n) (sym (ap length c.as_slice-2.ensures)) lt)
+
+pub returns-in-Ok-begin-clause-none_appended : goal.returns-in-Ok-begin-clause-none_appended
+returns-in-Ok-begin-clause-none_appended g c = λ j lt. c.in-Ok-begin.ensures.none_before j (subst (λ n. j < n) (sym (ap length c.as_slice-2.ensures)) lt)
+
+pub returns-in-Ok-begin-clause-sized : goal.returns-in-Ok-begin-clause-sized
+returns-in-Ok-begin-clause-sized g c = record {
+  stores = sym (length-map (held c.in-Ok-begin.started.holdings).stores (λ (t : Tracked). t.content)) ∙ ap length c.in-Ok-begin.ensures.contents ∙ c.in-Ok.ensures.sizes.0;
+  outputs = c.in-Ok-begin.ensures.outputs ∙ ap length c.as_slice-2.ensures;
+}

@@ -19,7 +19,8 @@ returns-clause-frame g c = λ told records rest fits split.
     let inside = c.requires.inside told in
     let same = c.in-Ok.ensures.frame (take c.args.room (drop c.args.at file)) (header_is file c.args.at c.args.room inside records rest fits split c.as_slice.result.now c.min.result c.min.ensures (c.as_slice.ensures.value ∙ c.in_default.ensures.bytes told)) (room_is file c.args.at c.args.room inside records rest fits split) in
     let again = ap (λ (i : Image). take c.in-Ok.len (drop c.args.at (i c.args.file))) (c.fill.ensures.rests told).reads_are in
-    let read = frame_is file c.args.at c.args.room inside records rest fits split c.in-Ok.len c.as_slice-2.result.now c.in-Ok.ensures.within.1 (c.as_slice-2.ensures.value ∙ c.in_default-fill.ensures.bytes told ∙ again) same in
+    let bytes_are : c.as_slice-2.result.now ≡ take c.in-Ok.len (drop c.args.at file) = c.as_slice-2.ensures.value ∙ (c.in_default-fill.ensures.bytes told ∙ again) in
+    let read = frame_is file c.args.at c.args.room inside records rest fits split c.in-Ok.len c.as_slice-2.result.now c.in-Ok.ensures.within.1 bytes_are same in
     c.frame_in.ensures.frame records (length (frame_bytes records)) read
 
 pub returns-clause-whole : goal.returns-clause-whole
@@ -28,5 +29,6 @@ returns-clause-whole g c = λ told records rest fits split.
     let inside = c.requires.inside told in
     let same = c.in-Ok.ensures.frame (take c.args.room (drop c.args.at file)) (header_is file c.args.at c.args.room inside records rest fits split c.as_slice.result.now c.min.result c.min.ensures (c.as_slice.ensures.value ∙ c.in_default.ensures.bytes told)) (room_is file c.args.at c.args.room inside records rest fits split) in
     let again = ap (λ (i : Image). take c.in-Ok.len (drop c.args.at (i c.args.file))) (c.fill.ensures.rests told).reads_are in
-    let read = frame_is file c.args.at c.args.room inside records rest fits split c.in-Ok.len c.as_slice-2.result.now c.in-Ok.ensures.within.1 (c.as_slice-2.ensures.value ∙ c.in_default-fill.ensures.bytes told ∙ again) same in
+    let bytes_are : c.as_slice-2.result.now ≡ take c.in-Ok.len (drop c.args.at file) = c.as_slice-2.ensures.value ∙ (c.in_default-fill.ensures.bytes told ∙ again) in
+    let read = frame_is file c.args.at c.args.room inside records rest fits split c.in-Ok.len c.as_slice-2.result.now c.in-Ok.ensures.within.1 bytes_are same in
     IfErr-weaker c.frame_in.result (λ e. e ≡ NoMemory) (λ e. (place : ℕ) → e ≡ Damaged place → ⊥) (λ e is place bad. let both : NoMemory ≡ Damaged place = sym is ∙ bad in absurd cc) (c.frame_in.ensures.whole records (length (frame_bytes records)) read)

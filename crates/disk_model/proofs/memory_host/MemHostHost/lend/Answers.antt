@@ -7,7 +7,6 @@ use Rattle.disk_model.specs.MemoryHost.{disk_of}
 use Rattle.disk_model.specs.Slots.{held_in, out_held, outs_in, shelves_in, slot_at}
 use Rattle.disk_model.specs.declared.memory_disk.MemDisk.{MemDisk}
 use Rattle.disk_model.specs.declared.slots.Slot.{Slot}
-use Rattle.std.proofs.Common.{rules}
 use Rattle.std.specs.Vec.{with_items}
 use Rattle.disk_model.specs.MemoryDisk.{mem_calls, mem_images, mem_images_since, mem_reads}
 use Rattle.disk_model.proofs.memory_host.MemHostHost.lend.Goals as goal
@@ -30,7 +29,7 @@ step c =
     let view : c.as_mut_slice.result.now ≡ v.items = c.as_mut_slice.ensures.value in
     let was : slot_at c.as_mut_slice.result.now n ≡ Some s = ap (λ (l : List (Slot MemDisk)). slot_at l n) view ∙ p.2 in
     let moved = changes_at c.as_mut_slice.result.now c.take_held.new.slots n (λ s. record { name = s.name; held = None; shelves = s.shelves }) s c.take_held.ensures.changed was refl in
-    (s, p.1, p.3, c.take_held.ensures.value ∙ ap held_in was ∙ p.3, at_items v _ _ n s _ view (search rules) moved)
+    (s, p.1, p.3, c.take_held.ensures.value ∙ ap held_in was ∙ p.3, at_items v _ _ n s _ view c.take_held.auto.slots moved)
 
 same_disk : (d e : MemDisk) (o : Option MemDisk) → o ≡ Some d → o ≡ Some e → d ≡ e
 same_disk d e o q r = cc

@@ -10,7 +10,6 @@ use Rattle.disk_model.specs.Slots.{held_in, outs_in, shelves_in, slot_at}
 use Rattle.disk_model.specs.declared.memory_disk.MemDisk.{MemDisk}
 use Rattle.disk_model.specs.declared.names.DiskName.{DiskName}
 use Rattle.disk_model.specs.declared.slots.Slot.{Slot}
-use Rattle.std.proofs.Common.{rules}
 use Rattle.std.specs.Vec.{with_items}
 use Rattle.disk_model.proofs.memory_host.MemHostHost.shelf.Goals as goal
 use Rattle.disk_model.proofs.memory_host.MemHostHost.shelf.Goals.{After-one_out}
@@ -30,7 +29,7 @@ step c out' =
     let view : c.as_mut_slice.result.now ≡ v.items = c.as_mut_slice.ensures.value in
     let was : slot_at c.as_mut_slice.result.now n ≡ Some s = ap (λ (l : List (Slot MemDisk)). slot_at l n) view ∙ p.1 in
     let moved = changes_at c.as_mut_slice.result.now c.one_out.new.slots n (λ s. record { name = s.name; held = s.held; shelves = s.shelves + 1 }) s (c.one_out.ensures.changed out') was refl in
-    (s, at_items v _ _ n s _ view (search rules) moved)
+    (s, at_items v _ _ n s _ view c.one_out.auto.slots moved)
 
 kept : (c : After-one_out) → c.one_out.result ≡ false → (with_items c.ensure.new.self.slots c.one_out.new.slots).items ≡ c.ensure.new.self.slots.items
 kept c refused =

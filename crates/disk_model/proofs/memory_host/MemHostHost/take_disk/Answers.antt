@@ -5,7 +5,6 @@ use Rattle.disk_model.specs.MemoryDisk.{mem_name}
 use Rattle.disk_model.specs.Slots.{held_in, out_held, outs_in, shelves_in, slot_at}
 use Rattle.disk_model.specs.declared.memory_disk.MemDisk.{MemDisk}
 use Rattle.disk_model.specs.declared.slots.Slot.{Slot}
-use Rattle.std.proofs.Common.{rules}
 use Rattle.std.specs.Vec.{with_items}
 use Rattle.disk_model.proofs.memory_host.MemHostHost.take_disk.Goals as goal
 use Rattle.disk_model.proofs.memory_host.MemHostHost.take_disk.Goals.{After-put_held}
@@ -25,7 +24,7 @@ step c =
     let view : c.as_mut_slice.result.now ≡ v.items = c.as_mut_slice.ensures.value in
     let was : slot_at c.as_mut_slice.result.now n ≡ Some s = ap (λ (l : List (Slot MemDisk)). slot_at l n) view ∙ p.1 in
     let moved = changes_at c.as_mut_slice.result.now c.put_held.new.slots n (λ s. record { name = s.name; held = Some c.args.disk; shelves = s.shelves }) s c.put_held.ensures.changed was refl in
-    (s, p.2, at_items v _ _ n s _ view (search rules) moved)
+    (s, p.2, at_items v _ _ n s _ view c.put_held.auto.slots moved)
 
 same_disk : (d e : MemDisk) → Some d ≡ Some e → d ≡ e
 same_disk d e q = cc

@@ -1,7 +1,6 @@
 use Rattle.std.proofs.Common.{◌≡◌, ◌∙◌, ◌-◌, ◌≤◌, List, Some, ap, arith, sym, refl}
 use Rattle.disk_model.proofs.HostSteps.{at_items, same_held}
 use Rattle.disk_model.proofs.SlotSteps.{At, changes_at, one_less, shelf_slot, stays}
-use Rattle.std.proofs.Common.{rules}
 use Rattle.std.specs.Vec.{with_items}
 use Rattle.disk_model.specs.Slots.{held_in, outs_in, shelves_in, slot_at}
 use Rattle.disk_model.specs.declared.memory_disk.MemDisk.{MemDisk}
@@ -25,7 +24,7 @@ step c =
     let view : c.as_mut_slice.result.now ≡ v.items = c.as_mut_slice.ensures.value in
     let was : slot_at c.as_mut_slice.result.now n ≡ Some s = ap (λ (l : List (Slot MemDisk)). slot_at l n) view ∙ p.1 in
     let moved = changes_at c.as_mut_slice.result.now c.one_in.new.slots n (λ s. record { name = s.name; held = s.held; shelves = s.shelves - 1 }) s c.one_in.ensures.changed was refl in
-    (s, there, at_items v _ _ n s _ view (search rules) moved)
+    (s, there, at_items v _ _ n s _ view c.one_in.auto.slots moved)
 
 pub invariant_of-self : goal.invariant_of-self
 unfolding Step

@@ -1,9 +1,12 @@
-use Rattle.std.proofs.Common.{◌<◌, ◌∙◌, ap, inl, length, refl, sym, subst}
+use Rattle.std.proofs.Common.{ℕ, Bool, true, false, ◌≡◌, ◌≤◌, ◌<◌, ◌+◌, ◌∙◌, ap, inl, length, refl, sym, subst}
+use Rattle.samza_model.specs.Content.{sent_at}
+use Rattle.samza_model.specs.Counters.{Rose}
+use Rattle.task_unit.specs.declared.faults.CommitFault.TheVariants.{Broken, Busy, Device, Failed, Limit, Windowing}
 use Rattle.task_unit.specs.Acting.{held, IsSized}
 use Rattle.task_unit.specs.Held.{Held, state_of}
 use Rattle.task_unit.specs.Crashes.{WriteLeaves}
 use Rattle.restore_trim.specs.Standing.{OthersStay}
-use Rattle.task_unit.specs.Units.{IsCommitted, CommitLeaves}
+use Rattle.task_unit.specs.Units.{IsCommitted, CommitLeaves, appended_at}
 use Rattle.samza_model.specs.Files.{Image}
 use Rattle.samza_model.specs.Restored.{Restores}
 use Rattle.disk_model.specs.Images.{LeavesOnly}
@@ -14,6 +17,16 @@ use Rattle.task_unit.specs.Growth.{PassesLimit}
 use Rattle.task_unit.proofs.Growing.{passes_limit, within_limit}
 use Rattle.task_unit.proofs.Flushed.{none_unlogged}
 use Rattle.task_unit.proofs.units.OneUnit.commit.Goals as goal
+
+broken_now : true ≡ false → ⊥
+broken_now e = cc
+
+unbroken : {b : Bool} → b ≡ false → b ≡ true → ⊥
+unbroken is not = broken_now (sym not ∙ is)
+
+-- the one fault of a write is no other one
+device_alone : (Device ≡ Limit → ⊥) × (Device ≡ Broken → ⊥) × (Device ≡ Failed → ⊥) × (Device ≡ Windowing → ⊥) × ((n : ℕ) → Device ≡ Busy n → ⊥)
+device_alone = ((λ e. cc), (λ e. cc), (λ e. cc), (λ e. cc), λ n e. cc)
 
 pub write-requires-clause-open : goal.write-requires-clause-open
 write-requires-clause-open g c κs within = λ told.
@@ -214,3 +227,78 @@ returns-clause-others g c = λ told.
     let stay : OthersStay (length u.setup.stores) (length u.setup.outputs) (disk.reads u.disk) (disk.reads c.write.new.disk) =
     rw (sym inv.changelogs_are, sym inv.outputs_are) (c.in-Ok.ensures.others told) in
     subst (λ v. OthersStay (length v.setup.stores) (length v.setup.outputs) (disk.reads v.disk) (disk.reads c.write.new.disk)) c.self.view_is stay
+
+pub invariant_of-self : goal.invariant_of-self
+invariant_of-self g c =
+    let inv = c.self.invariant in
+    record {
+      set_up = inv.set_up;
+      sized = inv.sized;
+      idle = inv.idle;
+      changelogs_are = c.in-Err.ensures.changelogs ∙ inv.changelogs_are;
+      outputs_are = c.in-Err.ensures.outputs ∙ inv.outputs_are;
+      begins = inv.begins;
+      within = inv.within;
+      sound = λ b. absurd (broken_now b);
+      stands = λ b. absurd (broken_now b);
+    }
+
+pub returns-in-Err-clause-given : goal.returns-in-Err-clause-given
+returns-in-Err-clause-given g c = (ap (λ v. v.job) c.self.view_is, ap (λ v. v.setup) c.self.view_is, ap (λ v. v.shelf) c.self.view_is, ap (λ v. v.messages) c.self.view_is, ap (λ v. v.begun) c.self.view_is)
+
+pub returns-in-Err-clause-kept : goal.returns-in-Err-clause-kept
+returns-in-Err-clause-kept g c = (ap (λ v. v.next) c.self.view_is, ap (λ v. v.state.stores) c.self.view_is)
+
+pub returns-in-Err-clause-unmade : goal.returns-in-Err-clause-unmade
+returns-in-Err-clause-unmade g c = (ap (λ v. v.state) c.self.view_is, ap (λ v. v.unlogged) c.self.view_is, ap (λ v. v.mark) c.self.view_is, ap (λ v. v.appended) c.self.view_is)
+
+pub returns-in-Err-clause-refused : goal.returns-in-Err-clause-refused
+returns-in-Err-clause-refused g c = λ other. absurd (other c.in-Err.ensures.device.0)
+
+pub returns-in-Err-clause-limit : goal.returns-in-Err-clause-limit
+returns-in-Err-clause-limit g c = λ is. absurd (device_alone.0 (sym c.in-Err.ensures.device.0 ∙ is))
+
+pub returns-in-Err-clause-broken : goal.returns-in-Err-clause-broken
+returns-in-Err-clause-broken g c = ((λ is. absurd (device_alone.1 (sym c.in-Err.ensures.device.0 ∙ is))), λ b. absurd (unbroken (sym (ap (λ v. v.broken) c.self.view_is) ∙ c.if-self.false) b))
+
+pub returns-in-Err-clause-stays_broken : goal.returns-in-Err-clause-stays_broken
+returns-in-Err-clause-stays_broken g c = λ b. absurd (unbroken (sym (ap (λ v. v.broken) c.self.view_is) ∙ c.if-self.false) b)
+
+pub returns-in-Err-clause-never : goal.returns-in-Err-clause-never
+returns-in-Err-clause-never g c = ((λ is. device_alone.2 (sym c.in-Err.ensures.device.0 ∙ is)), (λ is. device_alone.3 (sym c.in-Err.ensures.device.0 ∙ is)), λ n is. device_alone.4 n (sym c.in-Err.ensures.device.0 ∙ is))
+
+pub returns-in-Err-clause-device : goal.returns-in-Err-clause-device
+returns-in-Err-clause-device g c = λ _. subst (λ v. Rose (g.D.Disk.fault_count v.disk) (g.D.Disk.fault_count c.write.new.disk)) c.self.view_is c.in-Err.ensures.device.1
+
+pub returns-in-Err-clause-later : goal.returns-in-Err-clause-later
+returns-in-Err-clause-later g c = subst (λ v. g.D.Disk.fault_count v.disk ≤ g.D.Disk.fault_count c.write.new.disk) c.self.view_is c.in-Err.ensures.later
+
+pub returns-in-Err-clause-name : goal.returns-in-Err-clause-name
+returns-in-Err-clause-name g c = c.in-Err.ensures.name ∙ ap (λ v. g.D.Disk.name v.disk) c.self.view_is
+
+pub returns-clause-later : goal.returns-clause-later
+returns-clause-later g c = subst (λ v. g.D.Disk.fault_count v.disk ≤ g.D.Disk.fault_count c.write.new.disk) c.self.view_is c.in-Ok.ensures.later
+
+pub returns-clause-name : goal.returns-clause-name
+returns-clause-name g c = c.in-Ok.ensures.name ∙ ap (λ v. g.D.Disk.name v.disk) c.self.view_is
+
+pub returns-clause-given : goal.returns-clause-given
+returns-clause-given g c = (ap (λ v. v.job) c.self.view_is, ap (λ v. v.setup) c.self.view_is, ap (λ v. v.shelf) c.self.view_is, ap (λ v. v.messages) c.self.view_is, ap (λ v. v.begun) c.self.view_is)
+
+pub returns-clause-kept : goal.returns-clause-kept
+returns-clause-kept g c = (ap (λ v. v.next) c.self.view_is, c.flush_all.ensures.contents ∙ ap (λ v. v.state.stores) c.self.view_is)
+
+pub returns-clause-ok : goal.returns-clause-ok
+returns-clause-ok g c = (sym (ap (λ v. v.broken) c.self.view_is) ∙ c.if-self.false, refl)
+
+pub returns-clause-stays_broken : goal.returns-clause-stays_broken
+returns-clause-stays_broken g c = λ b. absurd (unbroken (sym (ap (λ v. v.broken) c.self.view_is) ∙ c.if-self.false) b)
+
+pub returns-clause-answered : goal.returns-clause-answered
+returns-clause-answered g c = (c.in_ok-plan.made, refl, refl)
+
+pub returns-clause-cleared : goal.returns-clause-cleared
+returns-clause-cleared g c = λ j lt. c.clear.ensures.cleared.none j (subst (λ n. j < n) (sym (c.self.invariant.sized.outputs ∙ ap (λ v. length v.setup.outputs) c.self.view_is)) lt)
+
+pub returns-clause-counted : goal.returns-clause-counted
+returns-clause-counted g c = λ j lt. subst (λ v. appended_at c.clear.new.self.cleared j ≡ appended_at v.appended j + length (sent_at v.state.sent j)) c.self.view_is (c.clear.ensures.cleared.counted j (subst (λ n. j < n) (sym (c.self.invariant.sized.outputs ∙ ap (λ v. length v.setup.outputs) c.self.view_is)) lt))

@@ -48,3 +48,69 @@ returns-in-Ok-None-clause-processed g c = λ _.
       next_is = refl;
     } in
     subst (λ v. IsProcessed (g.J.Job.meaning v.job) v.setup v.messages v.next v.state v.unlogged (u.next + 1) (state_of new) (unlogged_of new.stores)) c.self.view_is here
+
+pub returns-in-Ok-None-clause-given : goal.returns-in-Ok-None-clause-given
+returns-in-Ok-None-clause-given g c = (ap (λ v. v.job) c.self.view_is, ap (λ v. v.setup) c.self.view_is, ap (λ v. v.messages) c.self.view_is, ap (λ v. v.begun) c.self.view_is)
+
+pub returns-in-Ok-None-clause-disk : goal.returns-in-Ok-None-clause-disk
+returns-in-Ok-None-clause-disk g c = ap (λ v. v.disk) c.self.view_is
+
+pub returns-in-Ok-None-clause-shelf : goal.returns-in-Ok-None-clause-shelf
+returns-in-Ok-None-clause-shelf g c = ap (λ v. v.shelf) c.self.view_is
+
+pub returns-in-Ok-None-clause-mark : goal.returns-in-Ok-None-clause-mark
+returns-in-Ok-None-clause-mark g c = (ap (λ v. v.mark) c.self.view_is, ap (λ v. v.broken) c.self.view_is)
+
+pub returns-in-Ok-None-clause-appended : goal.returns-in-Ok-None-clause-appended
+returns-in-Ok-None-clause-appended g c = c.in-Ok-None.ensures.counts ∙ ap (λ v. v.appended) c.self.view_is
+
+pub returns-in-Ok-Some-clause-given : goal.returns-in-Ok-Some-clause-given
+returns-in-Ok-Some-clause-given g c = (ap (λ v. v.job) c.self.view_is, ap (λ v. v.setup) c.self.view_is, ap (λ v. v.messages) c.self.view_is, ap (λ v. v.begun) c.self.view_is)
+
+pub returns-in-Ok-Some-clause-disk : goal.returns-in-Ok-Some-clause-disk
+returns-in-Ok-Some-clause-disk g c = ap (λ v. v.disk) c.self.view_is
+
+pub returns-in-Ok-Some-clause-shelf : goal.returns-in-Ok-Some-clause-shelf
+returns-in-Ok-Some-clause-shelf g c = ap (λ v. v.shelf) c.self.view_is
+
+pub returns-in-Ok-Some-clause-mark : goal.returns-in-Ok-Some-clause-mark
+returns-in-Ok-Some-clause-mark g c = (ap (λ v. v.mark) c.self.view_is, ap (λ v. v.broken) c.self.view_is)
+
+pub returns-in-Ok-Some-clause-appended : goal.returns-in-Ok-Some-clause-appended
+returns-in-Ok-Some-clause-appended g c = c.in-Ok-Some.ensures.counts ∙ ap (λ v. v.appended) c.self.view_is
+
+pub returns-clause-given : goal.returns-clause-given
+returns-clause-given g c = (ap (λ v. v.job) c.self.view_is, ap (λ v. v.setup) c.self.view_is, ap (λ v. v.messages) c.self.view_is, ap (λ v. v.begun) c.self.view_is)
+
+pub returns-clause-disk : goal.returns-clause-disk
+returns-clause-disk g c = ap (λ v. v.disk) c.self.view_is
+
+pub returns-clause-shelf : goal.returns-clause-shelf
+returns-clause-shelf g c = ap (λ v. v.shelf) c.self.view_is
+
+pub returns-clause-mark : goal.returns-clause-mark
+returns-clause-mark g c = (ap (λ v. v.mark) c.self.view_is, ap (λ v. v.broken) c.self.view_is)
+
+pub returns-clause-appended : goal.returns-clause-appended
+returns-clause-appended g c = c.in-Err.ensures.counts ∙ ap (λ v. v.appended) c.self.view_is
+
+pub returns-in-Ok-None-clause-end : goal.returns-in-Ok-None-clause-end
+returns-in-Ok-None-clause-end g c = λ is. absurd (cc)
+
+pub invariant_of-self-in-Ok-Some : goal.invariant_of-self-in-Ok-Some
+invariant_of-self-in-Ok-Some g c =
+    let u = c.self.inside in
+    let inv = c.self.invariant in
+    let disk = g.D.Disk in
+    let e = c.in-Ok-Some.ensures in
+    record {
+      set_up = inv.set_up;
+      sized = e.sized;
+      idle = e.idle;
+      changelogs_are = inv.changelogs_are;
+      outputs_are = inv.outputs_are;
+      begins = inv.begins;
+      within = inv.within;
+      sound = inv.sound;
+      stands = λ b told. stands_kept (disk.reads u.disk) (disk.images u.disk) u.setup u.logs u.mark (held u.holdings) (held c.process.new.self) (inv.stands b told) e.clean;
+    }

@@ -1,6 +1,6 @@
-use Rattle.std.proofs.Common.{refl, sym, ◌∙◌, subst, arith}
+use Rattle.std.proofs.Common.{true, refl, ◌∙◌, arith}
 use Rattle.topic_log.specs.Moves.{Same}
-use Rattle.topic_log.proofs.Moving.{no_call}
+use Rattle.topic_log.proofs.Moving.{images_kept, no_call}
 use Rattle.topic_log.proofs.Logged.{open_long}
 use Rattle.topic_log.proofs.Batching.{at_end, next_frame, next_is, open_still}
 use Rattle.topic_log.proofs.logs.Log.batch.Goals as goal
@@ -42,17 +42,84 @@ returns-in-Ok-clause-stays g c = λ told frames h.
     let disk = g.D.Disk in
     let r = c.read_frame.ensures.rests told in
     open_still (disk.reads c.args.disk.now) (disk.reads c.read_frame.new.disk) (disk.images c.args.disk.now) (disk.images c.read_frame.new.disk) c.args.self.now c.args.self.now frames r.reads_are
-    (λ i now. let p = r.moves.now i now in subst (disk.images c.args.disk.now) (sym p.2) p.1) refl refl h
+    (images_kept _ _ _ _ _ _ r) refl refl h
 
 pub returns-in-Ok-clause-others : goal.returns-in-Ok-clause-others
 returns-in-Ok-clause-others g c = λ told log frames h.
     let disk = g.D.Disk in
     let r = c.read_frame.ensures.rests told in
     open_still (disk.reads c.args.disk.now) (disk.reads c.read_frame.new.disk) (disk.images c.args.disk.now) (disk.images c.read_frame.new.disk) log log frames r.reads_are
-    (λ i now. let p = r.moves.now i now in subst (disk.images c.args.disk.now) (sym p.2) p.1) refl refl h
+    (images_kept _ _ _ _ _ _ r) refl refl h
 
 pub returns-else-is_device-clause-sane : goal.returns-else-is_device-clause-sane
 returns-else-is_device-clause-sane g c = λ told at is.
     let p = c.requires told c.if-self.false in
     let f = next_frame (g.D.Disk.reads c.args.disk.now) (g.D.Disk.images c.args.disk.now) c.args.self.now c.args.place p.0 p.1.0 p.1.1 c.if-end-place.false in
     c.in-Err.ensures.whole told f.records _ f.fits f.split at is
+
+pub returns-then-self-clause-stays : goal.returns-then-self-clause-stays
+returns-then-self-clause-stays g c = λ told frames h. h
+
+pub returns-then-self-clause-others : goal.returns-then-self-clause-others
+returns-then-self-clause-others g c = λ told log frames h. h
+
+pub returns-then-end-place-clause-stays : goal.returns-then-end-place-clause-stays
+returns-then-end-place-clause-stays g c = λ told frames h. h
+
+pub returns-then-end-place-clause-others : goal.returns-then-end-place-clause-others
+returns-then-end-place-clause-others g c = λ told log frames h. h
+
+pub returns-then-is_device-clause-images : goal.returns-then-is_device-clause-images
+returns-then-is_device-clause-images g c = λ told. images_kept _ _ _ _ _ _ (c.read_frame.ensures.rests told)
+
+pub returns-then-is_device-clause-none_lost : goal.returns-then-is_device-clause-none_lost
+returns-then-is_device-clause-none_lost g c = λ told. (c.read_frame.ensures.rests told).none_lost
+
+pub returns-then-is_device-clause-any_moment : goal.returns-then-is_device-clause-any_moment
+returns-then-is_device-clause-any_moment g c = λ told. (c.read_frame.ensures.rests told).moves.moment
+
+pub returns-in-Ok-clause-images : goal.returns-in-Ok-clause-images
+returns-in-Ok-clause-images g c = λ told. images_kept _ _ _ _ _ _ (c.read_frame.ensures.rests told)
+
+pub returns-in-Ok-clause-none_lost : goal.returns-in-Ok-clause-none_lost
+returns-in-Ok-clause-none_lost g c = λ told. (c.read_frame.ensures.rests told).none_lost
+
+pub returns-in-Ok-clause-any_moment : goal.returns-in-Ok-clause-any_moment
+returns-in-Ok-clause-any_moment g c = λ told. (c.read_frame.ensures.rests told).moves.moment
+
+pub returns-else-is_device-clause-images : goal.returns-else-is_device-clause-images
+returns-else-is_device-clause-images g c = λ told. images_kept _ _ _ _ _ _ (c.read_frame.ensures.rests told)
+
+pub returns-else-is_device-clause-none_lost : goal.returns-else-is_device-clause-none_lost
+returns-else-is_device-clause-none_lost g c = λ told. (c.read_frame.ensures.rests told).none_lost
+
+pub returns-else-is_device-clause-any_moment : goal.returns-else-is_device-clause-any_moment
+returns-else-is_device-clause-any_moment g c = λ told. (c.read_frame.ensures.rests told).moves.moment
+
+pub returns-then-is_device-clause-stays : goal.returns-then-is_device-clause-stays
+returns-then-is_device-clause-stays g c = λ told frames h.
+    let disk = g.D.Disk in
+    let r = c.read_frame.ensures.rests told in
+    open_still (disk.reads c.args.disk.now) (disk.reads c.read_frame.new.disk) (disk.images c.args.disk.now) (disk.images c.read_frame.new.disk) c.args.self.now (record { file = c.args.self.now.file; extent = c.args.self.now.extent; broken = true }) frames r.reads_are
+    (images_kept _ _ _ _ _ _ r) refl refl h
+
+pub returns-then-is_device-clause-others : goal.returns-then-is_device-clause-others
+returns-then-is_device-clause-others g c = λ told log frames h.
+    let disk = g.D.Disk in
+    let r = c.read_frame.ensures.rests told in
+    open_still (disk.reads c.args.disk.now) (disk.reads c.read_frame.new.disk) (disk.images c.args.disk.now) (disk.images c.read_frame.new.disk) log log frames r.reads_are
+    (images_kept _ _ _ _ _ _ r) refl refl h
+
+pub returns-else-is_device-clause-stays : goal.returns-else-is_device-clause-stays
+returns-else-is_device-clause-stays g c = λ told frames h.
+    let disk = g.D.Disk in
+    let r = c.read_frame.ensures.rests told in
+    open_still (disk.reads c.args.disk.now) (disk.reads c.read_frame.new.disk) (disk.images c.args.disk.now) (disk.images c.read_frame.new.disk) c.args.self.now c.args.self.now frames r.reads_are
+    (images_kept _ _ _ _ _ _ r) refl refl h
+
+pub returns-else-is_device-clause-others : goal.returns-else-is_device-clause-others
+returns-else-is_device-clause-others g c = λ told log frames h.
+    let disk = g.D.Disk in
+    let r = c.read_frame.ensures.rests told in
+    open_still (disk.reads c.args.disk.now) (disk.reads c.read_frame.new.disk) (disk.images c.args.disk.now) (disk.images c.read_frame.new.disk) log log frames r.reads_are
+    (images_kept _ _ _ _ _ _ r) refl refl h
