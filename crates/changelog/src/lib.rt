@@ -8,6 +8,3 @@ mod reverts;
 pub use changelogs::Changelog;
 pub use log_frame::frames_of;
 pub use reverts::revert;
-
-#[cfg(test)]
-mod tests;

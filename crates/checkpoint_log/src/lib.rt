@@ -15,6 +15,3 @@ pub use encoding::encode_checkpoint;
 pub use faults::CheckpointFault;
 pub use lasts::last;
 pub use orders::is_well_formed;
-
-#[cfg(test)]
-mod tests;

@@ -29,6 +29,3 @@ pub use memory_shelf::MemShelf;
 pub use names::{DiskFault, DiskName};
 pub use picks::Pick;
 pub use shelves::Shelf;
-
-#[cfg(test)]
-mod tests;

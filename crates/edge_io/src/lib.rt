@@ -8,6 +8,3 @@ mod std_sink;
 pub use memory_sink::MemSink;
 pub use sinks::{Sink, SinkFault};
 pub use std_sink::StdSink;
-
-#[cfg(test)]
-mod tests;

@@ -13,6 +13,3 @@ mod shelves;
 pub use disks::FileDisk;
 pub use folders::FileHost;
 pub use shelves::FileShelf;
-
-#[cfg(test)]
-mod tests;

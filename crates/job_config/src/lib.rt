@@ -17,8 +17,6 @@ mod shipped;
 mod stores;
 mod streams;
 mod table;
-#[cfg(test)]
-mod tests;
 mod values;
 
 pub use config::{InputConfig, JobConfig};

@@ -8,6 +8,3 @@ mod tracked;
 
 pub use tables::Table;
 pub use tracked::{TrackedTable, Undo};
-
-#[cfg(test)]
-mod tests;

@@ -19,6 +19,3 @@ pub use faults::{BadAt, FrameFault};
 pub use frames::Frame;
 pub use headers::frame_len;
 pub use reading::{Checked, check};
-
-#[cfg(test)]
-mod tests;

@@ -5,6 +5,3 @@ mod outputs;
 mod queues;
 
 pub use outputs::Outputs;
-
-#[cfg(test)]
-mod tests;

@@ -12,8 +12,6 @@ mod lines;
 mod pairs;
 mod parts;
 mod reading;
-#[cfg(test)]
-mod tests;
 mod unit;
 mod writing;
 

@@ -14,6 +14,3 @@ pub use faults::OpenFault;
 pub use laws::restores_to_one;
 pub use naming::topic_name;
 pub use restoring::{Restored, restore};
-
-#[cfg(test)]
-mod tests;

@@ -1,42 +1,12 @@
-//! The container's program: it runs the job of a folder, from the files that come in to the files that go out.
+//! The container's program: the top call over the machine's own words, folders and streams.
 #![tactic(auto)]
 
-mod building;
-#[cfg(test)]
-mod config_tests;
-mod config_text;
-#[cfg(test)]
-mod crash_tests;
-mod fault_lines;
-mod faults;
-mod hosting;
-mod laws;
-mod preparing;
-mod printing;
-mod reports;
-mod running;
-mod setups;
-#[cfg(test)]
-mod several_tests;
-#[cfg(test)]
-mod tests;
-#[cfg(test)]
-mod text_tests;
-mod texts;
-mod top;
-mod unit_reports;
-mod words;
-
 use edge_io::StdSink;
-pub use fault_lines::fault_line;
-pub use faults::RunFault;
 use file_host::FileHost;
-pub use laws::{built_configurations_set_up, runs_or_says_why, stops_with_one_status};
-pub use reports::{InputReport, OutputReport, StoreReport, TaskReport, report};
+use samza_container::samza_main;
 use std::process::ExitCode;
 use std::rt::Env;
 use std::{env, io};
-pub use top::samza_main;
 
 /// The words behind the program's name.
 fn command_words(rt: &(impl Env + AllocGlobal)) -> io::Result<Vec<String>> {

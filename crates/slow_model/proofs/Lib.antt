@@ -1,5 +1,4 @@
 mod Acts
 mod Folded
 mod Marks
-mod Places
 mod Runs

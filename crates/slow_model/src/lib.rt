@@ -13,8 +13,3 @@ pub use replays::replay;
 pub use spellings::{spell_checkpoint, spell_log};
 pub use states::PlainState;
 pub use turns::{fold_all, run_one};
-
-#[cfg(test)]
-mod log_tests;
-#[cfg(test)]
-mod tests;

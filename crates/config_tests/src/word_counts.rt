@@ -1,0 +1,152 @@
+// The word count's acts, by examples.
+
+use samza_model::{Act, Answer, Bin, Envelope, Job, NoMemory, Record, Ssp};
+use shipped_jobs::WordCount;
+use std::alloc::Global;
+use std::test::Fail;
+
+fn bin(alloc: Global, text: &str) -> Result<Bin, NoMemory> {
+    Bin::of(alloc, text.as_bytes())
+}
+
+fn message(alloc: Global, value: Option<Bin>) -> Result<Envelope, NoMemory> {
+    Ok(Envelope {
+        ssp: Ssp {
+            system: bin(alloc, "kafka")?,
+            stream: bin(alloc, "lines")?,
+            partition: 0,
+        },
+        offset: 7,
+        body: Record {
+            key: bin(alloc, "")?,
+            value,
+        },
+    })
+}
+
+#[derive(Clone, Copy)]
+enum Want {
+    Get(&'static str),
+    Put(&'static str, &'static str),
+    Send(&'static str, &'static str),
+    Done,
+    Fail(u32),
+}
+
+fn is_text(bin: &Bin, text: &str) -> bool {
+    bin.bytes() == text.as_bytes()
+}
+
+fn is_value(value: &Option<Bin>, text: &str) -> bool {
+    match value {
+        Some(bin) => is_text(bin, text),
+        None => false,
+    }
+}
+
+fn is_wanted(act: &Act, want: Want) -> bool {
+    match (act, want) {
+        (Act::Get { store: 0, key }, Want::Get(word)) => is_text(key, word),
+        (
+            Act::Put {
+                store: 0,
+                key,
+                value,
+            },
+            Want::Put(word, text),
+        ) => is_text(key, word) && is_text(value, text),
+        (Act::Send { output: 0, body }, Want::Send(word, text)) => {
+            is_text(&body.key, word) && is_value(&body.value, text)
+        }
+        (Act::Done, Want::Done) => true,
+        (Act::Fail(code), Want::Fail(wanted)) => *code == wanted,
+        _ => false,
+    }
+}
+
+fn answer_to(act: &Act) -> Answer {
+    match act {
+        Act::Get { .. } => Answer::Missing,
+        _ => Answer::Noted,
+    }
+}
+
+/// Whether the job acts on the message so, where it is answered that each key is missing.
+fn acts_so(alloc: Global, value: Option<Bin>, wants: &[Want]) -> Result<bool, NoMemory> {
+    let message = message(alloc, value)?;
+    let mut answers = Vec::new(alloc);
+    for want in wants {
+        let act = WordCount.act(alloc, &message, answers.as_slice())?;
+        if !is_wanted(&act, *want) {
+            return Ok(false);
+        }
+        answers.push(answer_to(&act))?;
+    }
+    Ok(true)
+}
+
+const TWO_WORDS: &[Want] = &[
+    Want::Get("a"),
+    Want::Put("a", "1"),
+    Want::Send("a", "1"),
+    Want::Get("b"),
+    Want::Put("b", "1"),
+    Want::Send("b", "1"),
+    Want::Done,
+];
+
+#[test]
+fn each_word_is_got_put_and_sent(rt: HostRuntime) -> Result<(), Fail> {
+    let alloc = rt.alloc();
+    assert!(rt; acts_so(alloc, Some(bin(alloc, " a  b ")?), TWO_WORDS)?);
+    Ok(())
+}
+
+/// What the store has of the word w, and the act behind it.
+const STORED: &[(&str, Want)] = &[
+    ("0", Want::Put("w", "1")),
+    ("7", Want::Put("w", "8")),
+    ("x", Want::Fail(2)),
+    ("", Want::Fail(2)),
+    ("+7", Want::Fail(2)),
+    ("07", Want::Fail(2)),
+    ("18446744073709551616", Want::Fail(2)),
+    ("18446744073709551615", Want::Fail(2)),
+    (
+        "18446744073709551614",
+        Want::Put("w", "18446744073709551615"),
+    ),
+];
+
+/// Whether the job acts so where it is answered that the store has this value of the word w.
+fn counts_on(alloc: Global, found: &str, want: Want) -> Result<bool, NoMemory> {
+    let word = bin(alloc, "w")?;
+    let message = message(alloc, Some(word))?;
+    let found = bin(alloc, found)?;
+    let act = WordCount.act(alloc, &message, &[Answer::Found(found)])?;
+    Ok(is_wanted(&act, want))
+}
+
+#[test]
+fn a_stored_value_counts_if_it_is_a_count(rt: HostRuntime) -> Result<(), Fail> {
+    for (found, want) in STORED {
+        assert!(rt; counts_on(rt.alloc(), found, *want)?, "at {found}");
+    }
+    Ok(())
+}
+
+#[test]
+fn a_word_above_1024_bytes_is_skipped(rt: HostRuntime) -> Result<(), Fail> {
+    let alloc = rt.alloc();
+    let long = Bin::from_vec(vec![in alloc; b'x'; 1025]?);
+    assert!(rt; acts_so(alloc, Some(long), &[Want::Done])?);
+    Ok(())
+}
+
+#[test]
+fn a_message_without_value_fails_and_a_window_is_done(rt: HostRuntime) -> Result<(), Fail> {
+    let alloc = rt.alloc();
+    let window = WordCount.window(alloc, &[])?;
+    assert!(rt; acts_so(alloc, None, &[Want::Fail(1)])? && is_wanted(&window, Want::Done));
+    Ok(())
+}

@@ -1,0 +1,408 @@
+// Runs that are stopped at each of their device calls in turn, with what a crash then leaves and what the next runs make of it.
+ghost use Rattle.std.specs.Prelude.{IfOk};
+ghost use Rattle.disk_model.specs.Handles.{NoneOut};
+ghost use Rattle.disk_model.specs.MemoryHost.{host_disks_out, host_shelves_out};
+
+use crate::examples::{
+    BEHIND_THIRD, CHECKPOINT, CONFIGURATION, COUNTS, MORE_COUNTS, MORE_TOTALS, THIRD_LINE,
+    THREE_LINES, TOTALS, TWO_LINES,
+};
+use crate::steps::{Step, TASK, first_astray, folder, goes, run_with};
+use checkpoint_log::decode_checkpoint;
+use disk_model::{Host, MemHost, Pick};
+use kv_store::Table;
+use samza_model::{Bin, Plain, Record};
+use std::alloc::Global;
+use std::test::Fail;
+use topic_log::read_shelf;
+
+const CHECKPOINTS: u32 = 0;
+
+const CHANGES: u32 = 1;
+
+const OUTPUT: u32 = 16;
+
+/// The frame that takes (a,3) and (c,1) back, and the frame of these two, each behind its open gate.
+const TAKEN_BACK: &[u8] =
+    b"O\x00\x00\x00\x13\x00\x00\x00\x02\x00\x00\x00\x01a\x00\x00\x00\x012\x00\x00\x00\x01c\xff\xff\xff\xff";
+
+const THIRD_COUNTS: &[u8] =
+    b"O\x00\x00\x00\x14\x00\x00\x00\x02\x00\x00\x00\x01a\x00\x00\x00\x013\x00\x00\x00\x01c\x00\x00\x00\x011";
+
+/// The checkpoints of a run on the third line that took two records back, and what it sent behind what was sent already.
+const COUNTS_EIGHT: &[u8] =
+    b"O\x00\x00\x00I\x00\x00\x00\x01\x00\x00\x00\x08\x00\x00\x00\x00\x00\x00\x00\x01\x00\x00\x009\x01\x00\x01\x0bkafka.lines\x00\x00\x00\x00\x00\x00\x00\x00\x00\x00\x00\x02\x01\x06counts\x00\x00\x00\x00\x00\x00\x00\x02\x01\x0ckafka.totalsO\x00\x00\x00I\x00\x00\x00\x01\x00\x00\x00\x08\x00\x00\x00\x00\x00\x00\x00\x02\x00\x00\x009\x01\x00\x01\x0bkafka.lines\x00\x00\x00\x00\x00\x00\x00\x00\x00\x00\x00\x03\x01\x06counts\x00\x00\x00\x00\x00\x00\x00\x08\x01\x0ckafka.totalsC";
+
+/// How many device calls a run makes before it appends to the output, where it has nothing to take back; and how many before
+/// it opens the gate of what it takes back, where the changelog has two frames.
+const OPENING: u64 = 13;
+
+const REVERT_GATE: u64 = 14;
+
+/// Where a run begins.
+#[derive(Clone, Copy, Debug, PartialEq, Eq)]
+enum Start {
+    /// At a checkpoint that covers two lines, with a third line to do.
+    Second,
+    /// The same behind a crash between the changelog and the checkpoint.
+    Third,
+}
+
+/// A folder from which such a run begins.
+fn begin(alloc: Global, start: Start) -> Result<MemHost, Fail>
+    ensures { IfOk result (λ h. NoneOut (host_disks_out h) (host_shelves_out h)) }
+{
+    let (changes, sent) = match start {
+        Start::Second => (COUNTS, TOTALS),
+        Start::Third => (MORE_COUNTS, MORE_TOTALS),
+    };
+    let mut host = folder(alloc, CONFIGURATION)?;
+    let steps = [
+        Step::File(CHECKPOINTS, CHECKPOINT),
+        Step::File(CHANGES, changes),
+        Step::File(OUTPUT, sent),
+        Step::Lines(0, THREE_LINES),
+    ];
+    first_astray(alloc, &mut host, &steps)?;
+    Ok(host)
+}
+
+/// The records of a file of the task.
+fn records(alloc: Global, host: &mut MemHost, file: u32) -> Result<Vec<Record>, Fail>
+    requires { NoneOut (host_disks_out host.old) (host_shelves_out host.old) }
+    ensures { NoneOut (host_disks_out host.new) (host_shelves_out host.new) }
+{
+    let mut shelf = host.shelf(alloc, &TASK, file)?;
+    let records = read_shelf(alloc, &mut shelf);
+    host.take_shelf(shelf);
+    Ok(records?)
+}
+
+/// How many records the task's checkpoints, its store's changelog and its output have.
+fn counts(alloc: Global, host: &mut MemHost) -> Result<(usize, usize, usize), Fail>
+    requires { NoneOut (host_disks_out host.old) (host_shelves_out host.old) }
+    ensures { NoneOut (host_disks_out host.new) (host_shelves_out host.new) }
+{
+    let marks = records(alloc, host, CHECKPOINTS)?.len();
+    let changes = records(alloc, host, CHANGES)?.len();
+    let sent = records(alloc, host, OUTPUT)?.len();
+    Ok((marks, changes, sent))
+}
+
+/// The map that these records of the changelog make.
+fn folded(alloc: Global, records: &[Record]) -> Result<Table, Fail> {
+    let mut table = Table::new(alloc);
+    for r in records {
+        match &r.value {
+            Some(value) => table.put(r.key.copy(alloc)?, value.copy(alloc)?)?,
+            None => table.delete(&r.key),
+        }
+    }
+    Ok(table)
+}
+
+/// Whether the table has just these pairs.
+fn has_just(alloc: Global, table: &Table, pairs: &[(&[u8; 1], &[u8; 1])]) -> Result<bool, Fail> {
+    for (key, value) in pairs {
+        let found = match table.get(&Bin::of(alloc, key.as_slice())?) {
+            Some(found) => found.bytes() == value.as_slice(),
+            None => false,
+        };
+        if !found {
+            return Ok(false);
+        }
+    }
+    Ok(table.len() == pairs.len() as u64)
+}
+
+/// The store at the first checkpoint, and at the second.
+const FIRST_STORE: &[(&[u8; 1], &[u8; 1])] = &[(b"a", b"2"), (b"b", b"1")];
+
+const SECOND_STORE: &[(&[u8; 1], &[u8; 1])] = &[(b"a", b"3"), (b"b", b"1"), (b"c", b"1")];
+
+/// The last checkpoint's number, the next offset that it has, and how many records of the changelog it counts.
+fn last_checkpoint(alloc: Global, host: &mut MemHost) -> Result<(u64, u64, u64), Fail>
+    requires { NoneOut (host_disks_out host.old) (host_shelves_out host.old) }
+    ensures { NoneOut (host_disks_out host.new) (host_shelves_out host.new) }
+{
+    let marks = records(alloc, host, CHECKPOINTS)?;
+    let last = match marks.last() {
+        Some(last) => decode_checkpoint(alloc, last)?,
+        None => return Ok((0, 0, 0)),
+    };
+    match (last.inputs.as_slice(), last.stores.as_slice()) {
+        ([input], [store]) => Ok((last.id, input.next, store.count)),
+        _ => Ok((0, 0, 0)),
+    }
+}
+
+/// What a crash may leave of a run on the third line, and of a run behind it with nothing to do.
+#[derive(Clone, Copy, Debug, PartialEq, Eq)]
+enum Left {
+    /// The first checkpoint with its store.
+    First,
+    /// The second one with its store.
+    Second,
+    /// A third one, with the same store.
+    Third,
+    /// None of them.
+    Other,
+}
+
+/// The report of a run with nothing to do behind the third checkpoint.
+const BEHIND_FOURTH: &[u8] =
+    b"container 0 tasks 1\nPartition 0 checkpoint 4 new 0\n  input kafka.lines 0 next 3 end 3\n  store counts keys 3\n  output kafka.totals sent 0\ntotal new 0\n";
+
+fn what_is_left(alloc: Global, host: &mut MemHost) -> Result<Left, Fail>
+    requires { NoneOut (host_disks_out host.old) (host_shelves_out host.old) }
+    ensures { NoneOut (host_disks_out host.new) (host_shelves_out host.new) }
+{
+    let (number, next, count) = last_checkpoint(alloc, host)?;
+    let changes = records(alloc, host, CHANGES)?;
+    let counted = match changes.as_slice().get(..count as usize) {
+        Some(counted) => folded(alloc, counted)?,
+        None => return Ok(Left::Other),
+    };
+    let left = match (number, next) {
+        (1, 2) if has_just(alloc, &counted, FIRST_STORE)? => Left::First,
+        (2, 3) if has_just(alloc, &counted, SECOND_STORE)? => Left::Second,
+        (3, 3) if has_just(alloc, &counted, SECOND_STORE)? => Left::Third,
+        _ => Left::Other,
+    };
+    Ok(left)
+}
+
+/// Whether the next run goes on from what is left and ends well: it prints its report, and leaves the next checkpoint, which
+/// counts the whole changelog, with the store behind the third line.
+fn goes_on(alloc: Global, host: &mut MemHost, left: Left) -> Result<bool, Fail>
+    requires { NoneOut (host_disks_out host.old) (host_shelves_out host.old) }
+    ensures { NoneOut (host_disks_out host.new) (host_shelves_out host.new) }
+{
+    let (report, number) = match left {
+        Left::First => (THIRD_LINE, 2),
+        Left::Second => (BEHIND_THIRD, 3),
+        Left::Third => (BEHIND_FOURTH, 4),
+        Left::Other => return Ok(false),
+    };
+    if !goes(alloc, host, Step::Reports(report))? {
+        return Ok(false);
+    }
+    let changes = records(alloc, host, CHANGES)?;
+    let made = last_checkpoint(alloc, host)? == (number, 3, changes.len() as u64);
+    let store = folded(alloc, changes.as_slice())?;
+    Ok(made && has_just(alloc, &store, SECOND_STORE)?)
+}
+
+/// Runs the folder with a disk that fails behind so many calls, and puts the image of a crash in its place. False where the
+/// run needed no more calls and ended well.
+fn is_stopped(alloc: Global, host: &mut MemHost, calls: u64, pick: Pick) -> Result<bool, Fail>
+    requires { NoneOut (host_disks_out host.old) (host_shelves_out host.old) }
+    ensures { NoneOut (host_disks_out host.new) (host_shelves_out host.new) }
+{
+    host.arm(&TASK, Vec::new(alloc), Some(calls))?;
+    let ended = run_with(alloc, host, &["run", "f"], Vec::new(alloc), Vec::new(alloc))?;
+    if ended.status == 0 {
+        return Ok(false);
+    }
+    let told = ended.status == 4 && ended.err.bytes() == b"device failed\n".as_slice();
+    host.crash(&TASK, pick);
+    Ok(told)
+}
+
+/// What a crash leaves, as the numbers of the task's records, for a run that is stopped behind each number of device calls in
+/// turn, up to the first that is enough. (0, 0, 0) stands where what is left is neither checkpoint with its store, or the next
+/// run doesn't end well.
+fn crashes(alloc: Global, start: Start, pick: Pick) -> Result<Vec<(usize, usize, usize)>, Fail> {
+    let mut all = Vec::new(alloc);
+    for calls in 0..64 {
+        let mut host = begin(alloc, start)?;
+        if !is_stopped(alloc, &mut host, calls, pick)? {
+            return Ok(all);
+        }
+        let held = counts(alloc, &mut host)?;
+        let left = what_is_left(alloc, &mut host)?;
+        let well = goes_on(alloc, &mut host, left)?;
+        all.push(if well { held } else { (0, 0, 0) })?;
+    }
+    Ok(all)
+}
+
+/// Each of these so many times, in this order.
+fn in_order(
+    alloc: Global,
+    left: &[(usize, usize, usize)],
+    times: &[u32],
+) -> Result<Vec<(usize, usize, usize)>, Fail> {
+    let mut all = Vec::new(alloc);
+    for (one, count) in left.iter().zip(times) {
+        for _i in 0..*count {
+            all.push(*one)?;
+        }
+    }
+    Ok(all)
+}
+
+/// The five images that are tried.
+const PICKS: [Pick; 5] = [
+    Pick::Old,
+    Pick::New,
+    Pick::Fill(0x4F),
+    Pick::Fill(0),
+    Pick::Cut(1),
+];
+
+#[test]
+fn a_run_after_a_crash_at_any_call_goes_on(rt: HostRuntime) -> Result<(), Fail> {
+    let alloc = rt.alloc();
+    // The opening makes 13 calls. Then the output, the changelog and the checkpoint are appended to, each by a write, a
+    // sync, a write that opens the gate, and a sync. Before this last sync a crash leaves the gate open where the pick
+    // takes the new byte, or gives it the open gate's value.
+    let left = [(1, 2, 3), (1, 2, 5), (1, 4, 5), (2, 4, 5)];
+    for (pick, times) in PICKS.iter().zip([
+        [17, 4, 4, 0],
+        [15, 4, 4, 2],
+        [15, 4, 4, 2],
+        [17, 4, 4, 0],
+        [15, 4, 4, 2],
+    ]) {
+        let expected = in_order(alloc, &left, &times)?;
+        let found = crashes(alloc, Start::Second, *pick)?;
+        assert_eq!(rt; found.as_slice(), expected.as_slice());
+    }
+    Ok(())
+}
+
+#[test]
+fn a_crash_of_a_run_that_takes_a_tail_back_is_gone_on_from(rt: HostRuntime) -> Result<(), Fail> {
+    let alloc = rt.alloc();
+    // Before the output is opened two records are appended to the changelog, which take two back; the commit's two calls
+    // of each log come behind that.
+    let left = [(1, 4, 5), (1, 6, 5), (1, 6, 7), (1, 8, 7), (2, 8, 7)];
+    for (pick, times) in PICKS.iter().zip([
+        [16, 7, 4, 4, 0],
+        [14, 7, 4, 4, 2],
+        [14, 7, 4, 4, 2],
+        [16, 7, 4, 4, 0],
+        [14, 7, 4, 4, 2],
+    ]) {
+        let expected = in_order(alloc, &left, &times)?;
+        let found = crashes(alloc, Start::Third, *pick)?;
+        assert_eq!(rt; found.as_slice(), expected.as_slice());
+    }
+    Ok(())
+}
+
+/// Stops a run on the third line behind so many calls and, after a crash, the next one behind so many. None where one of them
+/// needed no more; else whether each crash left one of the checkpoints with its store, and the run behind them ended well.
+fn stopped_twice(alloc: Global, pick: Pick, first: u64, second: u64) -> Result<Option<bool>, Fail> {
+    let mut host = begin(alloc, Start::Second)?;
+    if !is_stopped(alloc, &mut host, first, pick)? {
+        return Ok(None);
+    }
+    let once = what_is_left(alloc, &mut host)?;
+    if !is_stopped(alloc, &mut host, second, pick)? {
+        return Ok(None);
+    }
+    let twice = what_is_left(alloc, &mut host)?;
+    Ok(Some(once != Left::Other && goes_on(alloc, &mut host, twice)?))
+}
+
+/// How many pairs of stops were tried, and whether all of them went on.
+fn all_pairs(alloc: Global, pick: Pick) -> Result<(u32, bool), Fail> {
+    let mut tried = 0;
+    for first in 0..25 {
+        for second in 0..64 {
+            match stopped_twice(alloc, pick, first, second)? {
+                Some(true) => tried = u32::saturating_add(tried, 1),
+                Some(false) => return Ok((tried, false)),
+                None => break,
+            }
+        }
+    }
+    Ok((tried, true))
+}
+
+#[test]
+fn a_crash_inside_the_run_after_a_crash_is_gone_on_from(rt: HostRuntime) -> Result<(), Fail> {
+    let alloc = rt.alloc();
+    assert_eq!(rt; all_pairs(alloc, Pick::Old)?, (661, true));
+    Ok(())
+}
+
+#[test]
+fn so_is_one_that_leaves_each_free_byte_an_open_gate(rt: HostRuntime) -> Result<(), Fail> {
+    let alloc = rt.alloc();
+    assert_eq!(rt; all_pairs(alloc, Pick::Fill(0x4F))?, (649, true));
+    Ok(())
+}
+
+/// The first changelog's bytes without their last gate, and these frames behind them with a closed one.
+fn changes_with(alloc: Global, frames: &[&[u8]]) -> Result<Vec<u8>, Fail> {
+    let mut bytes = Vec::from_slice(alloc, &COUNTS[..29])?;
+    for frame in frames {
+        bytes.extend_from_slice(frame)?;
+    }
+    bytes.push(b'C')?;
+    Ok(bytes)
+}
+
+#[test]
+fn the_tail_of_a_changelog_is_taken_back(rt: HostRuntime) -> Result<(), Fail> {
+    let alloc = rt.alloc();
+    let changes = changes_with(alloc, &[THIRD_COUNTS, TAKEN_BACK, THIRD_COUNTS])?;
+    let mut sent = Vec::from_slice(alloc, &MORE_TOTALS[..68])?;
+    sent.extend_from_slice(&MORE_TOTALS[39..])?;
+    let mut host = begin(alloc, Start::Second)?;
+    let steps = [
+        Step::Stop(OPENING + 8),
+        Step::Refuses(4, b"device failed\n"),
+        Step::Crash(Pick::Old),
+        Step::Has(CHECKPOINTS, CHECKPOINT),
+        Step::Has(CHANGES, MORE_COUNTS),
+        Step::Reports(THIRD_LINE),
+        Step::Has(CHANGES, changes.as_slice()),
+        Step::Has(CHECKPOINTS, COUNTS_EIGHT),
+        Step::Has(OUTPUT, sent.as_slice()),
+    ];
+    assert_eq!(rt; first_astray(alloc, &mut host, &steps)?, None);
+    Ok(())
+}
+
+#[test]
+fn a_crash_in_the_gate_of_what_is_taken_back_leaves_the_store(rt: HostRuntime) -> Result<(), Fail> {
+    let alloc = rt.alloc();
+    for (pick, left, opened) in [(Pick::Old, 4, 6), (Pick::New, 6, 8)] {
+        let mut host = begin(alloc, Start::Third)?;
+        assert!(rt; is_stopped(alloc, &mut host, REVERT_GATE, pick)?);
+        assert_eq!(rt; counts(alloc, &mut host)?, (1, left, 5));
+        assert_eq!(rt; what_is_left(alloc, &mut host)?, Left::First);
+        // The task is opened, and then its input can't be read.
+        let steps = [
+            Step::Lines(0, &TWO_LINES[..12]),
+            Step::Refuses(6, b"damaged: kafka.lines 0: byte 1\n"),
+        ];
+        assert_eq!(rt; first_astray(alloc, &mut host, &steps)?, None);
+        assert_eq!(rt; counts(alloc, &mut host)?, (1, opened, 5));
+        let changes = records(alloc, &mut host, CHANGES)?;
+        let store = folded(alloc, changes.as_slice())?;
+        assert!(rt; has_just(alloc, &store, FIRST_STORE)?);
+    }
+    Ok(())
+}
+
+#[test]
+fn a_crash_in_the_checkpoints_gate_leaves_one_of_two(rt: HostRuntime) -> Result<(), Fail> {
+    let alloc = rt.alloc();
+    let gate = OPENING + 10;
+    for (pick, left, changes) in [
+        (Pick::Fill(0x43), Left::First, 8),
+        (Pick::Fill(0x4F), Left::Second, 4),
+    ] {
+        let mut host = begin(alloc, Start::Second)?;
+        assert!(rt; is_stopped(alloc, &mut host, gate, pick)?);
+        assert_eq!(rt; what_is_left(alloc, &mut host)?, left);
+        assert!(rt; goes_on(alloc, &mut host, left)?);
+        assert_eq!(rt; records(alloc, &mut host, CHANGES)?.len(), changes);
+    }
+    Ok(())
+}

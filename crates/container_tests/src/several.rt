@@ -1,0 +1,102 @@
+// Runs of a task with several stores and outputs. The word count uses the first store by name, and the first output.
+use crate::examples::{
+    CONFIGURATION, COUNTS, MORE_COUNTS, MORE_TOTALS, THREE_LINES, TOTALS, TWO_LINES,
+};
+use crate::steps::{Step, astray_in};
+use std::alloc::Global;
+use std::test::Fail;
+
+/// A log without a record.
+const NO_RECORDS: &[u8] = b"C";
+
+/// Two stores and two outputs, of which the word count uses the first ones.
+const TWO_OF_EACH: &[u8] =
+    b"app.outputs=kafka.totals,kafka.more\nstores.other.changelog=kafka.other-log\n";
+
+/// The checkpoints of that after two lines, and after the third.
+const CHECKPOINT_OF_TWO: &[u8] =
+    b"O\x00\x00\x00b\x00\x00\x00\x01\x00\x00\x00\x08\x00\x00\x00\x00\x00\x00\x00\x01\x00\x00\x00R\x01\x00\x01\x0bkafka.lines\x00\x00\x00\x00\x00\x00\x00\x00\x00\x00\x00\x02\x02\x06counts\x00\x00\x00\x00\x00\x00\x00\x02\x05other\x00\x00\x00\x00\x00\x00\x00\x00\x02\x0ckafka.totals\x0akafka.moreC";
+
+const CHECKPOINTS_OF_TWO: &[u8] =
+    b"O\x00\x00\x00b\x00\x00\x00\x01\x00\x00\x00\x08\x00\x00\x00\x00\x00\x00\x00\x01\x00\x00\x00R\x01\x00\x01\x0bkafka.lines\x00\x00\x00\x00\x00\x00\x00\x00\x00\x00\x00\x02\x02\x06counts\x00\x00\x00\x00\x00\x00\x00\x02\x05other\x00\x00\x00\x00\x00\x00\x00\x00\x02\x0ckafka.totals\x0akafka.moreO\x00\x00\x00b\x00\x00\x00\x01\x00\x00\x00\x08\x00\x00\x00\x00\x00\x00\x00\x02\x00\x00\x00R\x01\x00\x01\x0bkafka.lines\x00\x00\x00\x00\x00\x00\x00\x00\x00\x00\x00\x03\x02\x06counts\x00\x00\x00\x00\x00\x00\x00\x04\x05other\x00\x00\x00\x00\x00\x00\x00\x00\x02\x0ckafka.totals\x0akafka.moreC";
+
+const REPORT_OF_TWO: &[u8] =
+    b"container 0 tasks 1\nPartition 0 checkpoint 1 new 2\n  input kafka.lines 0 next 2 end 2\n  store counts keys 2\n  store other keys 0\n  output kafka.totals sent 3\n  output kafka.more sent 0\ntotal new 2\n";
+
+const NEXT_REPORT_OF_TWO: &[u8] =
+    b"container 0 tasks 1\nPartition 0 checkpoint 2 new 1\n  input kafka.lines 0 next 3 end 3\n  store counts keys 3\n  store other keys 0\n  output kafka.totals sent 2\n  output kafka.more sent 0\ntotal new 1\n";
+
+/// A store before the example's one, and the checkpoint and the report after two lines.
+const ANOTHER_BEFORE: &[u8] = b"stores.about.changelog=kafka.about-log\n";
+
+const CHECKPOINT_OF_ABOUT: &[u8] =
+    b"O\x00\x00\x00W\x00\x00\x00\x01\x00\x00\x00\x08\x00\x00\x00\x00\x00\x00\x00\x01\x00\x00\x00G\x01\x00\x01\x0bkafka.lines\x00\x00\x00\x00\x00\x00\x00\x00\x00\x00\x00\x02\x02\x05about\x00\x00\x00\x00\x00\x00\x00\x02\x06counts\x00\x00\x00\x00\x00\x00\x00\x00\x01\x0ckafka.totalsC";
+
+const REPORT_OF_ABOUT: &[u8] =
+    b"container 0 tasks 1\nPartition 0 checkpoint 1 new 2\n  input kafka.lines 0 next 2 end 2\n  store about keys 2\n  store counts keys 0\n  output kafka.totals sent 3\ntotal new 2\n";
+
+/// Eight stores, and eight outputs in no order of their names.
+const EIGHT_OF_EACH: &[u8] =
+    b"app.outputs=k.h,k.g,k.f,k.e,k.d,k.c,k.b,k.a\nstores.g.changelog=x\nstores.f.changelog=x\nstores.e.changelog=x\nstores.d.changelog=x\nstores.b.changelog=x\nstores.a.changelog=x\nstores.c.changelog=x\n";
+
+const REPORT_OF_EIGHT: &[u8] =
+    b"container 0 tasks 1\nPartition 0 checkpoint 1 new 2\n  input kafka.lines 0 next 2 end 2\n  store a keys 2\n  store b keys 0\n  store c keys 0\n  store counts keys 0\n  store d keys 0\n  store e keys 0\n  store f keys 0\n  store g keys 0\n  output k.h sent 3\n  output k.g sent 0\n  output k.f sent 0\n  output k.e sent 0\n  output k.d sent 0\n  output k.c sent 0\n  output k.b sent 0\n  output k.a sent 0\ntotal new 2\n";
+
+/// The first step that goes astray with the example's configuration and these lines behind it.
+fn astray_with(alloc: Global, lines: &[u8], steps: &[Step]) -> Result<Option<usize>, Fail> {
+    let mut text = Vec::from_slice(alloc, CONFIGURATION)?;
+    text.extend_from_slice(lines)?;
+    astray_in(alloc, text.as_slice(), steps)
+}
+
+#[test]
+fn another_store_and_output_are_kept_beside_the_first(rt: HostRuntime) -> Result<(), Fail> {
+    let steps = [
+        Step::Lines(0, TWO_LINES),
+        Step::Reports(REPORT_OF_TWO),
+        Step::Has(0, CHECKPOINT_OF_TWO),
+        Step::Has(1, COUNTS),
+        Step::Has(2, NO_RECORDS),
+        Step::Has(16, TOTALS),
+        Step::Has(17, NO_RECORDS),
+        Step::Lines(0, THREE_LINES),
+        Step::Reports(NEXT_REPORT_OF_TWO),
+        Step::Has(0, CHECKPOINTS_OF_TWO),
+        Step::Has(1, MORE_COUNTS),
+        Step::Has(2, NO_RECORDS),
+        Step::Has(16, MORE_TOTALS),
+        Step::Has(17, NO_RECORDS),
+    ];
+    assert_eq!(rt; astray_with(rt.alloc(), TWO_OF_EACH, &steps)?, None);
+    Ok(())
+}
+
+#[test]
+fn words_are_counted_in_the_first_store_by_name(rt: HostRuntime) -> Result<(), Fail> {
+    let steps = [
+        Step::Lines(0, TWO_LINES),
+        Step::Reports(REPORT_OF_ABOUT),
+        Step::Has(0, CHECKPOINT_OF_ABOUT),
+        Step::Has(1, COUNTS),
+        Step::Has(2, NO_RECORDS),
+        Step::Has(16, TOTALS),
+    ];
+    assert_eq!(rt; astray_with(rt.alloc(), ANOTHER_BEFORE, &steps)?, None);
+    Ok(())
+}
+
+#[test]
+fn eight_stores_and_eight_outputs_are_run(rt: HostRuntime) -> Result<(), Fail> {
+    for file in 1..8 {
+        let steps = [
+            Step::Lines(0, TWO_LINES),
+            Step::Reports(REPORT_OF_EIGHT),
+            Step::Has(1, COUNTS),
+            Step::Has(16, TOTALS),
+            Step::Has(1 + file, NO_RECORDS),
+            Step::Has(16 + file, NO_RECORDS),
+        ];
+        assert_eq!(rt; astray_with(rt.alloc(), EIGHT_OF_EACH, &steps)?, None);
+    }
+    Ok(())
+}

@@ -1,0 +1,121 @@
+// Each call once, on small tables.
+ghost use Rattle.std.specs.Prelude.{◌≡◌, length, IfOk};
+ghost use Rattle.kv_store.specs.Tracked.{IsDirty, undone};
+
+use kv_store::{Table, TrackedTable, Undo};
+use samza_model::{Bin, NoMemory};
+use std::alloc::Global;
+use std::test::Fail;
+
+fn bin(alloc: Global, text: &[u8; 1]) -> Result<Bin, NoMemory>
+    ensures { IfOk result (λ b. length b ≡ 1) }
+{
+    Bin::of(alloc, text)
+}
+
+fn is_text(found: Option<&Bin>, want: Option<&[u8; 1]>) -> bool {
+    match (found, want) {
+        (Some(bin), Some(text)) => bin.bytes() == text.as_slice(),
+        (None, None) => true,
+        _ => false,
+    }
+}
+
+/// A table of (a, 2) and (b, 3), and of what was put and taken away again.
+fn two_pairs(alloc: Global) -> Result<Table, NoMemory> {
+    let mut table = Table::new(alloc);
+    for (key, value) in [(b"b", b"1"), (b"a", b"2"), (b"b", b"3"), (b"d", b"4")] {
+        let key = bin(alloc, key)?;
+        let value = bin(alloc, value)?;
+        table.put(key, value)?;
+    }
+    let key = bin(alloc, b"d")?;
+    table.delete(&key);
+    Ok(table)
+}
+
+#[test]
+fn a_table_answers_as_a_sorted_map(rt: HostRuntime) -> Result<(), Fail> {
+    let table = two_pairs(rt.alloc())?;
+    assert!(rt; table.len() == 2 && !table.is_empty());
+    for (key, value, next) in [
+        (b"a", Some(b"2"), Some(b"a")),
+        (b"b", Some(b"3"), Some(b"b")),
+        (b"c", None, None),
+        (b"0", None, Some(b"a")),
+    ] {
+        let key = bin(rt.alloc(), key)?;
+        let found = table.next(&key).map(|pair| pair.0);
+        assert!(rt; is_text(table.get(&key), value) && is_text(found, next));
+    }
+    Ok(())
+}
+
+/// A table where (a, 1) is logged.
+fn one_logged(alloc: Global) -> Result<TrackedTable, NoMemory> {
+    let mut table = TrackedTable::new(alloc);
+    put(alloc, &mut table, b"a", b"1")?;
+    table.flushed();
+    Ok(table)
+}
+
+/// Sets a key's value.
+fn put(
+    alloc: Global,
+    table: &mut TrackedTable,
+    key: &[u8; 1],
+    value: &[u8; 1],
+) -> Result<Undo, NoMemory>
+    ensures can_undo { IfOk result (λ undo. IsDirty table.new undo.key) }
+    ensures undoes { IfOk result (λ undo. undone table.new undo ≡ table.old) }
+{
+    let key = bin(alloc, key)?;
+    let value = bin(alloc, value)?;
+    table.change(alloc, key, Some(value))
+}
+
+/// Takes a key away.
+fn remove(alloc: Global, table: &mut TrackedTable, key: &[u8; 1]) -> Result<Undo, NoMemory>
+    ensures can_undo { IfOk result (λ undo. IsDirty table.new undo.key) }
+    ensures undoes { IfOk result (λ undo. undone table.new undo ≡ table.old) }
+{
+    let key = bin(alloc, key)?;
+    table.change(alloc, key, None)
+}
+
+#[test]
+fn changes_are_logged_once(rt: HostRuntime) -> Result<(), Fail> {
+    let mut table = one_logged(rt.alloc())?;
+    remove(rt.alloc(), &mut table, b"a")?;
+    put(rt.alloc(), &mut table, b"b", b"2")?;
+    assert!(rt; table.len() == 1 && table.dirty() == 2);
+    match table.unlogged(rt.alloc())?.as_slice() {
+        [first, second] => {
+            assert!(rt; is_text(Some(&first.key), Some(b"a")) && first.value.is_none());
+            assert!(rt; is_text(second.value.as_ref(), Some(b"2")));
+        }
+        _ => assert!(rt; false),
+    }
+    Ok(())
+}
+
+#[test]
+fn changes_are_taken_back(rt: HostRuntime) -> Result<(), Fail> {
+    let mut table = one_logged(rt.alloc())?;
+    let key = bin(rt.alloc(), b"a")?;
+    let taken = remove(rt.alloc(), &mut table, b"a")?;
+    assert!(rt; table.next(&key).is_none());
+    let put = put(rt.alloc(), &mut table, b"b", b"2")?;
+    table.take_back(put);
+    table.take_back(taken);
+    assert!(rt; table.len() == 1 && table.dirty() == 0);
+    assert!(rt; is_text(table.get(&key), Some(b"1")));
+    Ok(())
+}
+
+#[test]
+fn a_table_is_taken_up_with_no_dirty_key(rt: HostRuntime) {
+    let alloc = rt.alloc();
+    let table = TrackedTable::with(alloc, Table::new(alloc));
+    assert!(rt; table.is_empty() && table.dirty() == 0);
+}

@@ -1,0 +1,222 @@
+// The line that tells why a run ended otherwise than well.
+ghost use Rattle.std.specs.Prelude.{◌≡◌, ◌∷◌, ◌++◌, [], IfOk, OnOk, decimal, slice_get};
+ghost use Rattle.samza_model.specs.Names.{topic_of};
+ghost use Rattle.samza_container.specs.FaultText.{config_text, what_text, why_text, turn_text, failure_head, failure_text, file_text, changelog_file, open_text, fault_text};
+ghost use Rattle.samza_container.specs.Texts.{partition_text, text_of};
+
+use crate::RunFault;
+use crate::texts::Text;
+use job_config::What;
+use samza_model::{Failure, NoMemory, Ssp, TaskName, Why};
+use std::alloc::Global;
+use task_unit::OpenFault;
+
+/// The line, with its end, of a run's fault. The faults of a task's own name it, and its inputs by their numbers.
+pub fn fault_line(
+    alloc: Global,
+    task: TaskName,
+    inputs: &[Ssp],
+    fault: &RunFault,
+) -> Result<Vec<u8>, NoMemory>
+    ensures { IfOk result (λ line. line.items ≡ fault_text task inputs.now fault.now ++ 10 ∷ []) }
+{
+    let mut text = Text::new(alloc);
+    put_fault(&mut text, task, inputs, fault)?;
+    text.put(b"\n")?;
+    Ok(text.into_bytes())
+}
+
+fn put_fault(
+    text: &mut Text,
+    task: TaskName,
+    inputs: &[Ssp],
+    fault: &RunFault,
+) -> Result<(), NoMemory>
+    ensures { OnOk result (text.new ≡ text.old ++ fault_text task inputs.now fault.now) }
+{
+    match fault {
+        RunFault::Words { place } => text.put_count(b"usage: word ", *place)?,
+        RunFault::NoText => put_config(text, b"job.properties", b"Missing")?,
+        RunFault::TextLimit => text.put(b"limit: text")?,
+        RunFault::BadEscape { line } => {
+            text.put_count(b"config: line ", *line)?;
+            text.put(b": BadEscape")?;
+        }
+        RunFault::BadKey { key, what } => put_config(text, key.bytes(), what_text(*what))?,
+        RunFault::NotBuilt { key } => put_config(text, key.bytes(), b"NotBuilt")?,
+        RunFault::NoPartition => put_config(text, b"task.inputs", b"Unknown")?,
+        RunFault::Device => text.put(b"device failed")?,
+        RunFault::NotOpened(fault) => put_not_opened(text, task, inputs, fault)?,
+        RunFault::Failed(failure) => put_failure(text, task, inputs, failure)?,
+        RunFault::Limit => text.put(b"limit: file")?,
+        RunFault::NoMemory => text.put(b"no memory")?,
+    }
+    Ok(())
+}
+
+fn put_config(text: &mut Text, key: &[u8], what: &[u8]) -> Result<(), NoMemory>
+    ensures { OnOk result (text.new ≡ text.old ++ config_text key.now what.now) }
+{
+    text.put(b"config: ")?;
+    text.put(key)?;
+    text.put(b": ")?;
+    text.put(what)
+}
+
+fn what_text(what: What) -> &'static [u8]
+    ensures { result.now ≡ what_text what }
+{
+    match what {
+        What::Missing => b"Missing",
+        What::NotNumber => b"NotNumber",
+        What::OutOfRange => b"OutOfRange",
+        What::BadName => b"BadName",
+        What::Unknown => b"Unknown",
+    }
+}
+
+fn put_not_opened(
+    text: &mut Text,
+    task: TaskName,
+    inputs: &[Ssp],
+    fault: &OpenFault,
+) -> Result<(), NoMemory>
+    ensures { OnOk result (text.new ≡ text.old ++ open_text task inputs.now fault.now) }
+{
+    match fault {
+        OpenFault::Device => text.put(b"device failed")?,
+        OpenFault::Damaged { input, file, at } => {
+            text.put(b"damaged: ")?;
+            put_file(text, task, inputs, *input, u64::from(*file))?;
+            text.put_count(b": byte ", *at)?;
+        }
+        OpenFault::Shape => {
+            text.put(b"shape: ")?;
+            text.put_task(task)?;
+        }
+        OpenFault::Ahead {
+            input,
+            store,
+            wanted,
+            held,
+        } => {
+            text.put(b"ahead: ")?;
+            put_file(text, task, inputs, *input, changelog_file(*store))?;
+            text.put(b": ")?;
+            put_two(text, *wanted, b" above ", *held)?;
+        }
+        OpenFault::Limit => text.put(b"limit: file")?,
+        OpenFault::NoMemory => text.put(b"no memory")?,
+    }
+    Ok(())
+}
+
+/// Adds two numbers and what stands between them.
+fn put_two(text: &mut Text, first: u64, between: &[u8], second: u64) -> Result<(), NoMemory>
+    ensures { OnOk result (text.new ≡ text.old ++ decimal first ++ between.now ++ decimal second) }
+{
+    text.put_number(first)?;
+    text.put_count(between, second)
+}
+
+/// The number of a store's changelog on its task's disk.
+fn changelog_file(store: Option<u32>) -> u64
+    ensures { result ≡ changelog_file store }
+{
+    match store {
+        Some(store) => u64::from(store) + 1,
+        None => 0,
+    }
+}
+
+fn put_file(
+    text: &mut Text,
+    task: TaskName,
+    inputs: &[Ssp],
+    input: Option<u32>,
+    file: u64,
+) -> Result<(), NoMemory>
+    ensures { OnOk result (text.new ≡ text.old ++ file_text task inputs.now input file) }
+{
+    match input {
+        Some(input) => put_input(text, inputs, input)?,
+        None => {
+            text.put_task(task)?;
+            text.put_count(b" file ", file)?;
+        }
+    }
+    Ok(())
+}
+
+/// Adds an input's partition; nothing where there is no such input.
+fn put_input(text: &mut Text, inputs: &[Ssp], input: u32) -> Result<(), NoMemory>
+    ensures { OnOk result (text.new ≡ text.old ++ text_of partition_text (slice_get inputs.now input)) }
+{
+    if (input as usize) < inputs.len() {
+        text.put_partition(&inputs[input as usize])?;
+    }
+    Ok(())
+}
+
+/// Adds an input's stream; nothing where there is no such input.
+fn put_input_topic(text: &mut Text, inputs: &[Ssp], input: u32) -> Result<(), NoMemory>
+    ensures { OnOk result (text.new ≡ text.old ++ text_of topic_of (slice_get inputs.now input)) }
+{
+    if (input as usize) < inputs.len() {
+        text.put_topic(&inputs[input as usize])?;
+    }
+    Ok(())
+}
+
+fn put_failure(
+    text: &mut Text,
+    task: TaskName,
+    inputs: &[Ssp],
+    failure: &Failure,
+) -> Result<(), NoMemory>
+    ensures { OnOk result (text.new ≡ text.old ++ failure_text task inputs.now failure.now) }
+{
+    text.put(failure_head(failure.why))?;
+    text.put_task(task)?;
+    text.put(b": ")?;
+    put_turn(text, inputs, failure.place)?;
+    text.put(b": ")?;
+    put_why(text, failure.why)
+}
+
+fn failure_head(why: Why) -> &'static [u8]
+    ensures { result.now ≡ failure_head why }
+{
+    match why {
+        Why::Expired { .. } => b"expired: ",
+        Why::Code(_) | Why::TooMany | Why::Limits => b"task ",
+    }
+}
+
+fn put_turn(text: &mut Text, inputs: &[Ssp], place: Option<(u32, u64)>) -> Result<(), NoMemory>
+    ensures { OnOk result (text.new ≡ text.old ++ turn_text inputs.now place) }
+{
+    match place {
+        Some((input, offset)) => {
+            text.put_count(b"offset ", offset)?;
+            text.put(b" of ")?;
+            put_input_topic(text, inputs, input)?;
+        }
+        None => text.put(b"window")?,
+    }
+    Ok(())
+}
+
+fn put_why(text: &mut Text, why: Why) -> Result<(), NoMemory>
+    ensures { OnOk result (text.new ≡ text.old ++ why_text why) }
+{
+    match why {
+        Why::Code(code) => text.put_count(b"code ", u64::from(code)),
+        Why::TooMany => text.put(b"too many acts"),
+        Why::Limits => text.put(b"act outside the limits"),
+        Why::Expired { delivered, now } => {
+            text.put_count(b"delivered ", delivered)?;
+            text.put_count(b" now ", now)
+        }
+    }
+}

@@ -1,0 +1,112 @@
+// Why a run ends otherwise than well, and the status that tells it.
+ghost use Rattle.std.specs.Prelude.{◌≡◌, ◌≢◌};
+ghost use Rattle.samza_container.specs.Causes.{open_status, status_of, host_fault};
+
+use disk_model::HostFault;
+use job_config::What;
+use samza_model::{Bin, Failure, NoMemory, Ssp};
+use std::alloc::Global;
+use task_unit::OpenFault;
+
+/// Why a run ended otherwise than well: the first cause in the order of work.
+#[derive(Debug, Drop)]
+pub enum RunFault {
+    /// The words are no command; the place of the first one that is refused, from 1.
+    Words { place: u64 },
+    /// The folder has no `job.properties`.
+    NoText,
+    /// `job.properties` has more than 1,048,576 bytes.
+    TextLimit,
+    /// The first malformed `\u` of `job.properties`, by the natural line of its backslash, from 1.
+    BadEscape { line: u64 },
+    /// The first bad key of the configuration, as properties text writes it, and what is wrong with it.
+    BadKey { key: Bin, what: What },
+    /// This key, or file, asks for something that isn't built yet.
+    NotBuilt { key: Bin },
+    /// The input stream has no partition.
+    NoPartition,
+    /// A device failed, and the host's count of faults rose.
+    Device,
+    /// The task can't be opened.
+    NotOpened(OpenFault),
+    /// The job failed a message.
+    Failed(Failure),
+    /// A file would pass 2^40 bytes.
+    Limit,
+    NoMemory,
+}
+
+impl From<NoMemory> for RunFault {
+    ghost use Rattle.std.specs.Prelude.{◌≡◌};
+    ghost use Rattle.samza_container.specs.declared.faults.RunFault.TheVariants.{NoMemory as NoRoom};
+
+    ghost from_gives = { λ _ e. e ≡ NoRoom };
+
+    fn from(_: NoMemory) -> Self {
+        RunFault::NoMemory
+    }
+}
+
+/// A host's fault as the run's.
+pub(crate) fn of_host(fault: HostFault) -> RunFault
+    ensures { result ≡ host_fault fault }
+{
+    match fault {
+        HostFault::Device => RunFault::Device,
+        HostFault::NoMemory => RunFault::NoMemory,
+    }
+}
+
+fn open_status(fault: &OpenFault) -> u8
+    ensures status { result ≡ open_status fault.now }
+    ensures other { (result ≢ 0) × (result ≢ 7) }
+{
+    match fault {
+        OpenFault::Device => 4,
+        OpenFault::Damaged { .. } | OpenFault::Shape | OpenFault::Ahead { .. } => 6,
+        OpenFault::Limit => 9,
+        OpenFault::NoMemory => 8,
+    }
+}
+
+impl RunFault {
+    /// The status with which the program ends: 2 for the words, 3 for the configuration, 4 where a device failed, 5 where
+    /// the job failed, 6 for files that can't be run on, 8 for want of memory, and 9 for a limit.
+    pub fn status(&self) -> u8
+        ensures status { result ≡ status_of self.now }
+        ensures other { (result ≢ 0) × (result ≢ 7) }
+    {
+        match self {
+            RunFault::Words { .. } => 2,
+            RunFault::NoText
+            | RunFault::BadEscape { .. }
+            | RunFault::BadKey { .. }
+            | RunFault::NotBuilt { .. }
+            | RunFault::NoPartition => 3,
+            RunFault::Device => 4,
+            RunFault::NotOpened(fault) => open_status(fault),
+            RunFault::Failed(_) => 5,
+            RunFault::TextLimit | RunFault::Limit => 9,
+            RunFault::NoMemory => 8,
+        }
+    }
+}
+
+/// Why a command stopped, and the inputs that the line of a task's fault names: none, where it didn't come to its task.
+#[derive(Debug, Drop)]
+pub(crate) struct Stopped {
+    pub(crate) fault: RunFault,
+    pub(crate) inputs: Vec<Ssp>,
+}
+
+impl Stopped {
+    /// Before there is a task.
+    pub(crate) fn before_task(alloc: Global, fault: RunFault) -> Stopped
+        ensures { result.fault ≡ fault }
+    {
+        Stopped {
+            fault,
+            inputs: Vec::new(alloc),
+        }
+    }
+}

@@ -1,0 +1,100 @@
+// What is looked at before a task runs: the folder, its configuration, and the partitions of its input.
+ghost use Rattle.std.specs.Prelude.{◌≡◌, ◌≤◌, ◌⊎◌, None, Ok, IfErr, IfOk, OnOk};
+ghost use Rattle.samza_model.specs.Counters.{Rose};
+ghost use Rattle.disk_model.specs.Handles.{AsMany, SameAt};
+ghost use Rattle.disk_model.specs.declared.names.DiskName.{DiskName as DiskNameValue};
+ghost use Rattle.job_config.specs.Bounds.{IsBounded};
+ghost use Rattle.task_unit.specs.Units.{IsSetUp};
+ghost use Rattle.samza_container.specs.Causes.{status_of, IsReady, IsPastWords, WhyNotOne, WhyNotReady};
+ghost use Rattle.samza_container.specs.Configured.{configured, folder_of, input_disk};
+ghost use Rattle.samza_container.specs.NotBuilt.{first_not_built};
+
+use crate::RunFault;
+use crate::config_text::folder_config;
+use crate::faults::of_host;
+use crate::setups::{input_of, setup_of};
+use disk_model::Host;
+use job_config::JobConfig;
+use samza_model::{Bin, Setup};
+use std::alloc::Global;
+
+/// Enters the folder, and reads its configuration, of which all is built.
+fn configure<H: Host>(alloc: Global, folder: &str, host: &mut H) -> Result<JobConfig, RunFault>
+    ensures configured { IfOk result (λ c. H.tells → configured (H.text_of host.old) ≡ Ok c) }
+    ensures bounded { IfOk result IsBounded }
+    ensures built { IfOk result (λ c. first_not_built c ≡ None) }
+    ensures why { IfErr result (λ e. H.tells → WhyNotReady (folder_of (H.text_of host.old) (H.file_count host.old) (H.reads host.old)) e) }
+    ensures past { IfErr result IsPastWords }
+    ensures disks { H.tells → (n : DiskNameValue) → SameAt H.reads H.images H.images_since H.call_number H.file_count host.old host.new n }
+    ensures disks_out { AsMany (H.disks_out host.old) (H.disks_out host.new) }
+    ensures shelves_out { AsMany (H.shelves_out host.old) (H.shelves_out host.new) }
+    ensures device { IfErr result (λ e. status_of e ≡ 4 → Rose (H.fault_count host.old) (H.fault_count host.new)) }
+    ensures later { H.fault_count host.old ≤ H.fault_count host.new }
+{
+    match host.enter(alloc, folder) {
+        Ok(()) => {}
+        Err(fault) => return Err(of_host(fault)),
+    }
+    let text = match host.text(alloc) {
+        Ok(text) => text,
+        Err(fault) => return Err(of_host(fault)),
+    };
+    folder_config(alloc, text)
+}
+
+/// Refuses what isn't built yet.
+fn not_built(alloc: Global, key: &[u8]) -> RunFault
+    ensures { (result ≡ RunFault.NotBuilt key.now) ⊎ (result ≡ RunFault.NoMemory) }
+{
+    match Bin::of(alloc, key) {
+        Ok(key) => RunFault::NotBuilt { key },
+        Err(_) => RunFault::NoMemory,
+    }
+}
+
+/// Looks whether a setup's input has one partition.
+fn check_partitions<H: Host>(alloc: Global, setup: &Setup, host: &mut H) -> Result<(), RunFault>
+    requires { IsSetUp setup.now }
+    ensures one { OnOk result (H.tells → H.file_count host.old (input_disk setup.now) ≡ 1) }
+    ensures why { IfErr result (λ e. H.tells → WhyNotOne (H.file_count host.old (input_disk setup.now)) e) }
+    ensures past { IfErr result IsPastWords }
+    ensures disks { H.tells → (n : DiskNameValue) → SameAt H.reads H.images H.images_since H.call_number H.file_count host.old host.new n }
+    ensures disks_out { AsMany (H.disks_out host.old) (H.disks_out host.new) }
+    ensures shelves_out { AsMany (H.shelves_out host.old) (H.shelves_out host.new) }
+    ensures device { IfErr result (λ e. status_of e ≡ 4 → Rose (H.fault_count host.old) (H.fault_count host.new)) }
+    ensures later { H.fault_count host.old ≤ H.fault_count host.new }
+{
+    let input = input_of(setup);
+    match host.partitions(alloc, &input.system, &input.stream) {
+        Ok(0) => Err(RunFault::NoPartition),
+        Ok(1) => Ok(()),
+        Ok(_) => Err(not_built(alloc, b"task.inputs")),
+        Err(fault) => Err(of_host(fault)),
+    }
+}
+
+/// The setup of the folder's task, if the folder can be run.
+pub(crate) fn prepare<H: Host>(alloc: Global, folder: &str, host: &mut H) -> Result<Setup, RunFault>
+    ensures set_up { IfOk result IsSetUp }
+    ensures ready { IfOk result (λ s. H.tells → IsReady (folder_of (H.text_of host.old) (H.file_count host.old) (H.reads host.old)) s) }
+    ensures why { IfErr result (λ e. H.tells → WhyNotReady (folder_of (H.text_of host.old) (H.file_count host.old) (H.reads host.old)) e) }
+    ensures past { IfErr result IsPastWords }
+    ensures disks { H.tells → (n : DiskNameValue) → SameAt H.reads H.images H.images_since H.call_number H.file_count host.old host.new n }
+    ensures disks_out { AsMany (H.disks_out host.old) (H.disks_out host.new) }
+    ensures shelves_out { AsMany (H.shelves_out host.old) (H.shelves_out host.new) }
+    ensures device { IfErr result (λ e. status_of e ≡ 4 → Rose (H.fault_count host.old) (H.fault_count host.new)) }
+    ensures later { H.fault_count host.old ≤ H.fault_count host.new }
+{
+    let config = match configure(alloc, folder, host) {
+        Ok(config) => config,
+        Err(fault) => return Err(fault),
+    };
+    let setup = match setup_of(alloc, &config) {
+        Ok(setup) => setup,
+        Err(_) => return Err(RunFault::NoMemory),
+    };
+    match check_partitions(alloc, &setup, host) {
+        Ok(()) => Ok(setup),
+        Err(fault) => Err(fault),
+    }
+}

@@ -1,5 +1,0 @@
-use Rattle.samza_run.proofs.Spelling.{set_up}
-use Rattle.samza_run.proofs.laws.built_configurations_set_up.Goals as goal
-
-pub returns : goal.returns
-returns c = set_up

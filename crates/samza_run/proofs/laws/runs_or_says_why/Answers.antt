@@ -1,5 +1,0 @@
-use Rattle.samza_run.proofs.Exact.{not_stopped}
-use Rattle.samza_run.proofs.laws.runs_or_says_why.Goals as goal
-
-pub returns : goal.returns
-returns c = not_stopped

@@ -1,6 +1,0 @@
-use Rattle.std.proofs.Common.{◌≡◌, map, take}
-use Rattle.samza_run.specs.SetUp.{input_setup}
-use Rattle.samza_run.proofs.setups.partitions_of.Given as goal
-
-abbrev pub invariant-loop-input : goal.invariant-loop-input
-invariant-loop-input l = l.setups.items ≡ map input_setup (take l.input-index l.inputs)

@@ -1,5 +1,0 @@
-use Rattle.samza_run.specs.Reported.{AreRows, output_row, sent_by}
-use Rattle.samza_run.proofs.unit_reports.output_reports.Given as goal
-
-abbrev pub invariant-loop-j : goal.invariant-loop-j
-invariant-loop-j g l = AreRows l.j (output_row l.unit.setup (sent_by l.unit)) l.reports.items
