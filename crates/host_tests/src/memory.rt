@@ -1,5 +1,4 @@
-ghost use Rattle.std.specs.Prelude.{IfOk};
-ghost use Rattle.disk_model.specs.Handles.{NoneOut};
+ghost use Rattle.std.specs.Prelude.{◌≡◌, IfOk};
 ghost use Rattle.disk_model.specs.MemoryHost.{host_disks_out, host_shelves_out};
 
 use disk_model::*;
@@ -186,7 +185,7 @@ fn the_cut_image_has_the_front_of_each_write(rt: HostRuntime) -> Result<(), Fail
 /// A host with "abcd" in file 0 of two tasks' disks, of which the first one's calls behind the first fail, and "wxyz"
 /// written over it there.
 fn torn_host(alloc: Global, task: &DiskName) -> Result<MemHost, Fail>
-    ensures { IfOk result (λ h. NoneOut (host_disks_out h) (host_shelves_out h)) }
+    ensures { IfOk result (λ h. (host_disks_out h task.now ≡ 0) × (host_shelves_out h task.now ≡ 0)) }
 {
     let mut host = MemHost::new(alloc, None, 64, 16)?;
     host.put_file(task, 0, b"abcd")?;
