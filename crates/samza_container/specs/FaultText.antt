@@ -1,10 +1,11 @@
 -- The line that tells why a run ended otherwise than well.
-use Rattle.std.specs.Prelude.{ℕ, ◌+◌, List, ◌++◌, Option, None, Some, codes, decimal, slice_get}
+use Rattle.std.specs.Prelude.{ℕ, List, ◌++◌, Option, None, Some, codes, decimal, slice_get}
 use Rattle.samza_model.specs.declared.messages.Ssp.{Ssp}
 use Rattle.samza_model.specs.declared.messages.TaskName.{TaskName}
 use Rattle.samza_model.specs.declared.turns.Failure.{Failure}
 use Rattle.samza_model.specs.declared.turns.Why.{Why}
 use Rattle.samza_model.specs.declared.turns.Why.TheVariants.{Code, TooMany, Limits, Expired}
+use Rattle.samza_model.specs.Files.{checkpoint_file, changelog_file}
 use Rattle.samza_model.specs.Names.{topic_of}
 use Rattle.job_config.specs.declared.faults.What.{What}
 use Rattle.job_config.specs.declared.faults.What.TheVariants.{Missing, NotNumber, OutOfRange, BadName, Unknown}
@@ -53,17 +54,17 @@ abbrev pub file_text : TaskName → List Ssp → Option ℕ → ℕ → List ℕ
 file_text task inputs None file = task_text task ++ codes " file " ++ decimal file
 file_text task inputs (Some input) file = text_of partition_text (slice_get inputs input)
 
--- the changelog of a store on its task's disk; file 0 is the checkpoints'
-abbrev pub changelog_file : Option ℕ → ℕ
-changelog_file None = 0
-changelog_file (Some store) = store + 1
+-- the file of a task of which more is wanted than is there: a store's changelog, or the checkpoints' file
+abbrev pub file_ahead : Option ℕ → ℕ
+file_ahead None = checkpoint_file
+file_ahead (Some store) = changelog_file store
 
 -- why a task isn't opened
 abbrev pub open_text : TaskName → List Ssp → OpenFault → List ℕ
 open_text task inputs OpenDevice = codes "device failed"
 open_text task inputs (Damaged input file at) = codes "damaged: " ++ file_text task inputs input file ++ codes ": byte " ++ decimal at
 open_text task inputs Shape = codes "shape: " ++ task_text task
-open_text task inputs (Ahead input store wanted held) = codes "ahead: " ++ file_text task inputs input (changelog_file store) ++ codes ": " ++ decimal wanted ++ codes " above " ++ decimal held
+open_text task inputs (Ahead input store wanted held) = codes "ahead: " ++ file_text task inputs input (file_ahead store) ++ codes ": " ++ decimal wanted ++ codes " above " ++ decimal held
 open_text task inputs OpenLimit = codes "limit: file"
 open_text task inputs OpenNoMemory = codes "no memory"
 

@@ -1,7 +1,7 @@
 // The line that tells why a run ended otherwise than well.
-ghost use Rattle.std.specs.Prelude.{◌≡◌, ◌∷◌, ◌++◌, [], IfOk, OnOk, decimal, slice_get};
+ghost use Rattle.std.specs.Prelude.{◌≡◌, ◌∷◌, ◌++◌, [], IfOk, OnOk, codes, decimal, slice_get};
 ghost use Rattle.samza_model.specs.Names.{topic_of};
-ghost use Rattle.samza_container.specs.FaultText.{config_text, what_text, why_text, turn_text, failure_head, failure_text, file_text, changelog_file, open_text, fault_text};
+ghost use Rattle.samza_container.specs.FaultText.{config_text, what_text, why_text, turn_text, failure_head, failure_text, file_text, file_ahead, open_text, fault_text};
 ghost use Rattle.samza_container.specs.Texts.{partition_text, text_of};
 
 use crate::RunFault;
@@ -35,23 +35,26 @@ fn put_fault(
     ensures { OnOk result (text.new ≡ text.old ++ fault_text task inputs.now fault.now) }
 {
     match fault {
-        RunFault::Words { place } => text.put_count(b"usage: word ", *place)?,
-        RunFault::NoText => put_config(text, b"job.properties", b"Missing")?,
-        RunFault::TextLimit => text.put(b"limit: text")?,
-        RunFault::BadEscape { line } => {
-            text.put_count(b"config: line ", *line)?;
-            text.put(b": BadEscape")?;
-        }
-        RunFault::BadKey { key, what } => put_config(text, key.bytes(), what_text(*what))?,
-        RunFault::NotBuilt { key } => put_config(text, key.bytes(), b"NotBuilt")?,
-        RunFault::NoPartition => put_config(text, b"task.inputs", b"Unknown")?,
-        RunFault::Device => text.put(b"device failed")?,
-        RunFault::NotOpened(fault) => put_not_opened(text, task, inputs, fault)?,
-        RunFault::Failed(failure) => put_failure(text, task, inputs, failure)?,
-        RunFault::Limit => text.put(b"limit: file")?,
-        RunFault::NoMemory => text.put(b"no memory")?,
+        RunFault::Words { place } => text.put_count(b"usage: word ", *place),
+        RunFault::NoText => put_config(text, b"job.properties", b"Missing"),
+        RunFault::TextLimit => text.put(b"limit: text"),
+        RunFault::BadEscape { line } => put_bad_escape(text, *line),
+        RunFault::BadKey { key, what } => put_config(text, key.bytes(), what_text(*what)),
+        RunFault::NotBuilt { key } => put_config(text, key.bytes(), b"NotBuilt"),
+        RunFault::NoPartition => put_config(text, b"task.inputs", b"Unknown"),
+        RunFault::Device => text.put(b"device failed"),
+        RunFault::NotOpened(fault) => put_not_opened(text, task, inputs, fault),
+        RunFault::Failed(failure) => put_failure(text, task, inputs, failure),
+        RunFault::Limit => text.put(b"limit: file"),
+        RunFault::NoMemory => text.put(b"no memory"),
     }
-    Ok(())
+}
+
+fn put_bad_escape(text: &mut Text, line: u64) -> Result<(), NoMemory>
+    ensures { OnOk result (text.new ≡ text.old ++ codes "config: line " ++ decimal line ++ codes ": BadEscape") }
+{
+    text.put_count(b"config: line ", line)?;
+    text.put(b": BadEscape")
 }
 
 fn put_config(text: &mut Text, key: &[u8], what: &[u8]) -> Result<(), NoMemory>
@@ -84,15 +87,14 @@ fn put_not_opened(
     ensures { OnOk result (text.new ≡ text.old ++ open_text task inputs.now fault.now) }
 {
     match fault {
-        OpenFault::Device => text.put(b"device failed")?,
+        OpenFault::Device => text.put(b"device failed"),
         OpenFault::Damaged { input, file, at } => {
-            text.put(b"damaged: ")?;
-            put_file(text, task, inputs, *input, u64::from(*file))?;
-            text.put_count(b": byte ", *at)?;
+            put_file(text, b"damaged: ", task, inputs, *input, u64::from(*file))?;
+            text.put_count(b": byte ", *at)
         }
         OpenFault::Shape => {
             text.put(b"shape: ")?;
-            text.put_task(task)?;
+            text.put_task(task)
         }
         OpenFault::Ahead {
             input,
@@ -100,52 +102,51 @@ fn put_not_opened(
             wanted,
             held,
         } => {
-            text.put(b"ahead: ")?;
-            put_file(text, task, inputs, *input, changelog_file(*store))?;
-            text.put(b": ")?;
-            put_two(text, *wanted, b" above ", *held)?;
+            put_file(text, b"ahead: ", task, inputs, *input, file_ahead(*store))?;
+            put_above(text, *wanted, *held)
         }
-        OpenFault::Limit => text.put(b"limit: file")?,
-        OpenFault::NoMemory => text.put(b"no memory")?,
+        OpenFault::Limit => text.put(b"limit: file"),
+        OpenFault::NoMemory => text.put(b"no memory"),
     }
-    Ok(())
 }
 
-/// Adds two numbers and what stands between them.
-fn put_two(text: &mut Text, first: u64, between: &[u8], second: u64) -> Result<(), NoMemory>
-    ensures { OnOk result (text.new ≡ text.old ++ decimal first ++ between.now ++ decimal second) }
+/// Adds how many are wanted, and how many less are held.
+fn put_above(text: &mut Text, wanted: u64, held: u64) -> Result<(), NoMemory>
+    ensures { OnOk result (text.new ≡ text.old ++ codes ": " ++ decimal wanted ++ codes " above " ++ decimal held) }
 {
-    text.put_number(first)?;
-    text.put_count(between, second)
+    text.put_count(b": ", wanted)?;
+    text.put_count(b" above ", held)
 }
 
-/// The number of a store's changelog on its task's disk.
-fn changelog_file(store: Option<u32>) -> u64
-    ensures { result ≡ changelog_file store }
+/// The file of a task of which more is wanted than is there: a store's changelog, or the checkpoints' file.
+fn file_ahead(store: Option<u32>) -> u64
+    ensures { result ≡ file_ahead store }
 {
     match store {
-        Some(store) => u64::from(store) + 1,
+        Some(store) => 1 + u64::from(store),
         None => 0,
     }
 }
 
+/// Adds what is told and a file.
 fn put_file(
     text: &mut Text,
+    what: &[u8],
     task: TaskName,
     inputs: &[Ssp],
     input: Option<u32>,
     file: u64,
 ) -> Result<(), NoMemory>
-    ensures { OnOk result (text.new ≡ text.old ++ file_text task inputs.now input file) }
+    ensures { OnOk result (text.new ≡ text.old ++ what.now ++ file_text task inputs.now input file) }
 {
+    text.put(what)?;
     match input {
-        Some(input) => put_input(text, inputs, input)?,
+        Some(input) => put_input(text, inputs, input),
         None => {
             text.put_task(task)?;
-            text.put_count(b" file ", file)?;
+            text.put_count(b" file ", file)
         }
     }
-    Ok(())
 }
 
 /// Adds an input's partition; nothing where there is no such input.
