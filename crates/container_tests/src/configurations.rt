@@ -1,6 +1,6 @@
 // Configurations, and what is told of a run of a folder that has them.
 use crate::examples::{CHECKPOINT, CONFIGURATION, COUNTS, FIRST_REPORT, TOTALS, TWO_LINES};
-use crate::steps::{Step, astray_in};
+use crate::steps::{Scenario, Step, astray_in, first_failed, with_lines};
 use std::alloc::Global;
 use std::test::Fail;
 
@@ -33,13 +33,6 @@ fn is_refused(alloc: Global, text: &[u8], status: u8, line: &[u8]) -> Result<boo
     Ok(astray_in(alloc, text, &steps)?.is_none())
 }
 
-/// The example's configuration with these lines behind it.
-fn with(alloc: Global, lines: &[u8]) -> Result<Vec<u8>, Fail> {
-    let mut text = Vec::from_slice(alloc, CONFIGURATION)?;
-    text.extend_from_slice(lines)?;
-    Ok(text)
-}
-
 /// A text of one comment of so many bytes.
 fn comment(alloc: Global, bytes: usize) -> Result<Vec<u8>, Fail> {
     let mut text = Vec::new(alloc);
@@ -49,49 +42,71 @@ fn comment(alloc: Global, bytes: usize) -> Result<Vec<u8>, Fail> {
     Ok(text)
 }
 
-#[test]
-fn a_configuration_in_other_words_is_run(rt: HostRuntime) -> Result<(), Fail> {
-    let steps = [
-        Step::Lines(0, TWO_LINES),
-        Step::Reports(FIRST_REPORT),
-        Step::Has(16, TOTALS),
-        Step::Has(1, COUNTS),
-        Step::Has(0, CHECKPOINT),
-    ];
-    assert_eq!(rt; astray_in(rt.alloc(), OTHER_WORDS, &steps)?, None);
-    Ok(())
-}
-
-/// Lines behind the example's configuration that are wrong, and what is told of them.
-const WRONG_LINES: [(&[u8], &[u8]); 2] = [
-    (
-        b"task.window.ms=soon\n",
-        b"config: task.window.ms: NotNumber\n",
-    ),
-    (
-        b"stores.a\\ b.factory=x\n",
-        b"config: stores.a\\u0020b.factory: BadName\n",
-    ),
+/// Configurations that are run, and texts that are wrong.
+const TEXTS: &[Scenario] = &[
+    Scenario {
+        shows: "a configuration in other words is run",
+        text: OTHER_WORDS,
+        lines: b"",
+        steps: &[
+            Step::Lines(0, TWO_LINES),
+            Step::Reports(FIRST_REPORT),
+            Step::Has(16, TOTALS),
+            Step::Has(1, COUNTS),
+            Step::Has(0, CHECKPOINT),
+        ],
+    },
+    Scenario {
+        shows: "no interval, and one message at once, are built",
+        text: CONFIGURATION,
+        lines: b"task.window.ms=0\ntask.max.concurrency=1\n",
+        steps: &[Step::Lines(0, TWO_LINES), Step::Reports(FIRST_REPORT)],
+    },
+    Scenario {
+        shows: "a malformed escape is told by its line",
+        text: BAD_ESCAPE,
+        lines: b"",
+        steps: &[
+            Step::Lines(0, TWO_LINES),
+            Step::Refuses(3, b"config: line 7: BadEscape\n"),
+        ],
+    },
+    Scenario {
+        shows: "an interval is no number",
+        text: CONFIGURATION,
+        lines: b"task.window.ms=soon\n",
+        steps: &[
+            Step::Lines(0, TWO_LINES),
+            Step::Refuses(3, b"config: task.window.ms: NotNumber\n"),
+        ],
+    },
+    Scenario {
+        shows: "a store has no store's name, and its key is told as it is written",
+        text: CONFIGURATION,
+        lines: b"stores.a\\ b.factory=x\n",
+        steps: &[
+            Step::Lines(0, TWO_LINES),
+            Step::Refuses(3, b"config: stores.a\\u0020b.factory: BadName\n"),
+        ],
+    },
 ];
 
 #[test]
-fn a_text_that_is_wrong_is_told(rt: HostRuntime) -> Result<(), Fail> {
-    let alloc = rt.alloc();
-    assert!(rt; is_refused(alloc, BAD_ESCAPE, 3, b"config: line 7: BadEscape\n")?);
-    for (lines, line) in WRONG_LINES {
-        let text = with(alloc, lines)?;
-        assert!(rt; is_refused(alloc, text.as_slice(), 3, line)?);
-    }
+fn a_text_is_run_or_what_is_wrong_is_told(rt: HostRuntime) -> Result<(), Fail> {
+    assert_eq!(rt; first_failed(rt.alloc(), TEXTS)?, None);
     Ok(())
+}
+
+/// Whether a run with a text of so many bytes that say nothing is refused with this status and line.
+fn is_long_refused(alloc: Global, bytes: usize, status: u8, line: &[u8]) -> Result<bool, Fail> {
+    let text = comment(alloc, bytes)?;
+    is_refused(alloc, text.as_slice(), status, line)
 }
 
 #[test]
 fn a_text_above_a_mebibyte_is_refused(rt: HostRuntime) -> Result<(), Fail> {
-    let alloc = rt.alloc();
-    let long = comment(alloc, 1_048_577)?;
-    assert!(rt; is_refused(alloc, long.as_slice(), 9, b"limit: text\n")?);
-    let text = comment(alloc, 1_048_576)?;
-    assert!(rt; is_refused(alloc, text.as_slice(), 3, b"config: task.class: Missing\n")?);
+    assert!(rt; is_long_refused(rt.alloc(), 1_048_577, 9, b"limit: text\n")?);
+    assert!(rt; is_long_refused(rt.alloc(), 1_048_576, 3, b"config: task.class: Missing\n")?);
     Ok(())
 }
 
@@ -129,46 +144,61 @@ const NOT_BUILT: [(&[u8], &[u8]); 9] = [
     (b"task.class=Dedupe\n", b"config: task.class: NotBuilt\n"),
 ];
 
+/// The first row that isn't told, where its line stands behind the configuration alone, or behind all rows before it.
+fn first_untold(alloc: Global, rows: &[(&[u8], &[u8])]) -> Result<Option<usize>, Fail> {
+    let mut all = Vec::from_slice(alloc, CONFIGURATION)?;
+    for (place, (lines, line)) in rows.iter().enumerate() {
+        let alone = with_lines(alloc, CONFIGURATION, lines)?;
+        all.extend_from_slice(lines)?;
+        if !is_refused(alloc, alone.as_slice(), 3, line)? {
+            return Ok(Some(place));
+        }
+        if !is_refused(alloc, all.as_slice(), 3, line)? {
+            return Ok(Some(place));
+        }
+    }
+    Ok(None)
+}
+
 #[test]
 fn the_first_key_that_is_not_built_is_told(rt: HostRuntime) -> Result<(), Fail> {
-    let alloc = rt.alloc();
-    let mut all = with(alloc, b"")?;
-    for (lines, line) in NOT_BUILT {
-        let text = with(alloc, lines)?;
-        assert!(rt; is_refused(alloc, text.as_slice(), 3, line)?);
-        all.extend_from_slice(lines)?;
-        assert!(rt; is_refused(alloc, all.as_slice(), 3, line)?);
-    }
+    assert_eq!(rt; first_untold(rt.alloc(), &NOT_BUILT)?, None);
     Ok(())
 }
 
-#[test]
-fn no_interval_and_one_message_at_once_are_built(rt: HostRuntime) -> Result<(), Fail> {
-    let text = with(rt.alloc(), b"task.window.ms=0\ntask.max.concurrency=1\n")?;
-    let steps = [Step::Lines(0, TWO_LINES), Step::Reports(FIRST_REPORT)];
-    assert_eq!(rt; astray_in(rt.alloc(), text.as_slice(), &steps)?, None);
-    Ok(())
-}
+/// A task's files with a configuration of other names than those of its checkpoint.
+const OTHER_NAMES: &[Scenario] = &[
+    Scenario {
+        shows: "another output",
+        text: CONFIGURATION,
+        lines: b"app.outputs=kafka.sums\n",
+        steps: KEPT,
+    },
+    Scenario {
+        shows: "one output more",
+        text: CONFIGURATION,
+        lines: b"app.outputs=kafka.totals,kafka.sums\n",
+        steps: KEPT,
+    },
+    Scenario {
+        shows: "one store more",
+        text: CONFIGURATION,
+        lines: b"stores.other.changelog=kafka.other-log\n",
+        steps: KEPT,
+    },
+];
 
-/// Lines behind the example's configuration with other names than those of its checkpoint.
-const OTHER_NAMES: [&[u8]; 3] = [
-    b"app.outputs=kafka.sums\n",
-    b"app.outputs=kafka.totals,kafka.sums\n",
-    b"stores.other.changelog=kafka.other-log\n",
+/// The files that the example's run on two lines leaves, which are refused.
+const KEPT: &[Step] = &[
+    Step::Lines(0, TWO_LINES),
+    Step::File(0, CHECKPOINT),
+    Step::File(1, COUNTS),
+    Step::File(16, TOTALS),
+    Step::Refuses(6, b"shape: Partition 0\n"),
 ];
 
 #[test]
 fn other_names_are_refused_by_the_checkpoint(rt: HostRuntime) -> Result<(), Fail> {
-    for lines in OTHER_NAMES {
-        let text = with(rt.alloc(), lines)?;
-        let steps = [
-            Step::Lines(0, TWO_LINES),
-            Step::File(0, CHECKPOINT),
-            Step::File(1, COUNTS),
-            Step::File(16, TOTALS),
-            Step::Refuses(6, b"shape: Partition 0\n"),
-        ];
-        assert_eq!(rt; astray_in(rt.alloc(), text.as_slice(), &steps)?, None);
-    }
+    assert_eq!(rt; first_failed(rt.alloc(), OTHER_NAMES)?, None);
     Ok(())
 }

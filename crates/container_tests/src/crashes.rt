@@ -153,23 +153,46 @@ enum Left {
 const BEHIND_FOURTH: &[u8] =
     b"container 0 tasks 1\nPartition 0 checkpoint 4 new 0\n  input kafka.lines 0 next 3 end 3\n  store counts keys 3\n  output kafka.totals sent 0\ntotal new 0\n";
 
+/// Whether these records of the changelog make just these pairs.
+fn make_just(
+    alloc: Global,
+    records: &[Record],
+    pairs: &[(&[u8; 1], &[u8; 1])],
+) -> Result<bool, Fail> {
+    let table = folded(alloc, records)?;
+    has_just(alloc, &table, pairs)
+}
+
 fn what_is_left(alloc: Global, host: &mut MemHost) -> Result<Left, Fail>
     requires { NoneOut (host_disks_out host.old) (host_shelves_out host.old) }
     ensures { NoneOut (host_disks_out host.new) (host_shelves_out host.new) }
 {
     let (number, next, count) = last_checkpoint(alloc, host)?;
+    let (left, store) = match (number, next) {
+        (1, 2) => (Left::First, FIRST_STORE),
+        (2, 3) => (Left::Second, SECOND_STORE),
+        (3, 3) => (Left::Third, SECOND_STORE),
+        _ => return Ok(Left::Other),
+    };
     let changes = records(alloc, host, CHANGES)?;
-    let counted = match changes.as_slice().get(..count as usize) {
-        Some(counted) => folded(alloc, counted)?,
-        None => return Ok(Left::Other),
-    };
-    let left = match (number, next) {
-        (1, 2) if has_just(alloc, &counted, FIRST_STORE)? => Left::First,
-        (2, 3) if has_just(alloc, &counted, SECOND_STORE)? => Left::Second,
-        (3, 3) if has_just(alloc, &counted, SECOND_STORE)? => Left::Third,
-        _ => Left::Other,
-    };
-    Ok(left)
+    match changes.as_slice().get(..count as usize) {
+        Some(counted) if make_just(alloc, counted, store)? => Ok(left),
+        _ => Ok(Left::Other),
+    }
+}
+
+/// Whether the changelog as a whole makes just these pairs, and how many records it has.
+fn whole_changelog(
+    alloc: Global,
+    host: &mut MemHost,
+    pairs: &[(&[u8; 1], &[u8; 1])],
+) -> Result<(bool, u64), Fail>
+    requires { NoneOut (host_disks_out host.old) (host_shelves_out host.old) }
+    ensures { NoneOut (host_disks_out host.new) (host_shelves_out host.new) }
+{
+    let changes = records(alloc, host, CHANGES)?;
+    let made = make_just(alloc, changes.as_slice(), pairs)?;
+    Ok((made, changes.len() as u64))
 }
 
 /// Whether the next run goes on from what is left and ends well: it prints its report, and leaves the next checkpoint, which
@@ -187,10 +210,8 @@ fn goes_on(alloc: Global, host: &mut MemHost, left: Left) -> Result<bool, Fail>
     if !goes(alloc, host, Step::Reports(report))? {
         return Ok(false);
     }
-    let changes = records(alloc, host, CHANGES)?;
-    let made = last_checkpoint(alloc, host)? == (number, 3, changes.len() as u64);
-    let store = folded(alloc, changes.as_slice())?;
-    Ok(made && has_just(alloc, &store, SECOND_STORE)?)
+    let (made, count) = whole_changelog(alloc, host, SECOND_STORE)?;
+    Ok(made && last_checkpoint(alloc, host)? == (number, 3, count))
 }
 
 /// Runs the folder with a disk that fails behind so many calls, and puts the image of a crash in its place. False where the
@@ -251,44 +272,67 @@ const PICKS: [Pick; 5] = [
     Pick::Cut(1),
 ];
 
+/// The first of the five images that leaves other records than these, each so many times in this order.
+fn first_other(
+    alloc: Global,
+    start: Start,
+    left: &[(usize, usize, usize)],
+    times: &[&[u32]; 5],
+) -> Result<Option<Pick>, Fail> {
+    for (pick, times) in PICKS.iter().zip(times) {
+        let expected = in_order(alloc, left, times)?;
+        let found = crashes(alloc, start, *pick)?;
+        if found.as_slice() != expected.as_slice() {
+            return Ok(Some(*pick));
+        }
+    }
+    Ok(None)
+}
+
+/// The numbers of the task's records that a crash of a run on the third line leaves, and how often each image leaves each.
+/// The opening makes 13 calls. Then the output, the changelog and the checkpoint are appended to, each by a write, a sync, a
+/// write that opens the gate, and a sync. Before this last sync a crash leaves the gate open where the pick takes the new
+/// byte, or gives it the open gate's value.
+const LEFT: &[(usize, usize, usize)] = &[(1, 2, 3), (1, 2, 5), (1, 4, 5), (2, 4, 5)];
+
+const TIMES: [&[u32]; 5] = [
+    &[17, 4, 4, 0],
+    &[15, 4, 4, 2],
+    &[15, 4, 4, 2],
+    &[17, 4, 4, 0],
+    &[15, 4, 4, 2],
+];
+
 #[test]
 fn a_run_after_a_crash_at_any_call_goes_on(rt: HostRuntime) -> Result<(), Fail> {
-    let alloc = rt.alloc();
-    // The opening makes 13 calls. Then the output, the changelog and the checkpoint are appended to, each by a write, a
-    // sync, a write that opens the gate, and a sync. Before this last sync a crash leaves the gate open where the pick
-    // takes the new byte, or gives it the open gate's value.
-    let left = [(1, 2, 3), (1, 2, 5), (1, 4, 5), (2, 4, 5)];
-    for (pick, times) in PICKS.iter().zip([
-        [17, 4, 4, 0],
-        [15, 4, 4, 2],
-        [15, 4, 4, 2],
-        [17, 4, 4, 0],
-        [15, 4, 4, 2],
-    ]) {
-        let expected = in_order(alloc, &left, &times)?;
-        let found = crashes(alloc, Start::Second, *pick)?;
-        assert_eq!(rt; found.as_slice(), expected.as_slice());
-    }
+    assert_eq!(rt; first_other(rt.alloc(), Start::Second, LEFT, &TIMES)?, None);
     Ok(())
 }
 
+/// The same of a run that takes a tail back. Before the output is opened two records are appended to the changelog, which
+/// take two back; the commit's two calls of each log come behind that.
+const LEFT_OF_TAIL: &[(usize, usize, usize)] = &[
+    (1, 4, 5),
+    (1, 6, 5),
+    (1, 6, 7),
+    (1, 8, 7),
+    (2, 8, 7),
+];
+
+const TIMES_OF_TAIL: [&[u32]; 5] = [
+    &[16, 7, 4, 4, 0],
+    &[14, 7, 4, 4, 2],
+    &[14, 7, 4, 4, 2],
+    &[16, 7, 4, 4, 0],
+    &[14, 7, 4, 4, 2],
+];
+
 #[test]
 fn a_crash_of_a_run_that_takes_a_tail_back_is_gone_on_from(rt: HostRuntime) -> Result<(), Fail> {
-    let alloc = rt.alloc();
-    // Before the output is opened two records are appended to the changelog, which take two back; the commit's two calls
-    // of each log come behind that.
-    let left = [(1, 4, 5), (1, 6, 5), (1, 6, 7), (1, 8, 7), (2, 8, 7)];
-    for (pick, times) in PICKS.iter().zip([
-        [16, 7, 4, 4, 0],
-        [14, 7, 4, 4, 2],
-        [14, 7, 4, 4, 2],
-        [16, 7, 4, 4, 0],
-        [14, 7, 4, 4, 2],
-    ]) {
-        let expected = in_order(alloc, &left, &times)?;
-        let found = crashes(alloc, Start::Third, *pick)?;
-        assert_eq!(rt; found.as_slice(), expected.as_slice());
-    }
+    assert_eq!(rt;
+        first_other(rt.alloc(), Start::Third, LEFT_OF_TAIL, &TIMES_OF_TAIL)?,
+        None
+    );
     Ok(())
 }
 
@@ -368,41 +412,76 @@ fn the_tail_of_a_changelog_is_taken_back(rt: HostRuntime) -> Result<(), Fail> {
     Ok(())
 }
 
+/// Whether the task is opened, and then its input can't be read.
+fn is_opened_alone(alloc: Global, host: &mut MemHost) -> Result<bool, Fail>
+    requires { NoneOut (host_disks_out host.old) (host_shelves_out host.old) }
+    ensures { NoneOut (host_disks_out host.new) (host_shelves_out host.new) }
+{
+    let steps = [
+        Step::Lines(0, &TWO_LINES[..12]),
+        Step::Refuses(6, b"damaged: kafka.lines 0: byte 1\n"),
+    ];
+    Ok(first_astray(alloc, host, &steps)?.is_none())
+}
+
+/// What a crash in the gate of what is taken back leaves, and how many records the changelog has then and behind the next
+/// opening. None where a run goes astray, or the whole changelog doesn't make the first store then.
+fn crash_in_the_gate(alloc: Global, pick: Pick) -> Result<Option<(Left, usize, usize)>, Fail> {
+    let mut host = begin(alloc, Start::Third)?;
+    if !is_stopped(alloc, &mut host, REVERT_GATE, pick)? {
+        return Ok(None);
+    }
+    let (_, before, _) = counts(alloc, &mut host)?;
+    let left = what_is_left(alloc, &mut host)?;
+    if !is_opened_alone(alloc, &mut host)? {
+        return Ok(None);
+    }
+    let (_, behind, _) = counts(alloc, &mut host)?;
+    match whole_changelog(alloc, &mut host, FIRST_STORE)? {
+        (true, _) => Ok(Some((left, before, behind))),
+        (false, _) => Ok(None),
+    }
+}
+
 #[test]
 fn a_crash_in_the_gate_of_what_is_taken_back_leaves_the_store(rt: HostRuntime) -> Result<(), Fail> {
     let alloc = rt.alloc();
-    for (pick, left, opened) in [(Pick::Old, 4, 6), (Pick::New, 6, 8)] {
-        let mut host = begin(alloc, Start::Third)?;
-        assert!(rt; is_stopped(alloc, &mut host, REVERT_GATE, pick)?);
-        assert_eq!(rt; counts(alloc, &mut host)?, (1, left, 5));
-        assert_eq!(rt; what_is_left(alloc, &mut host)?, Left::First);
-        // The task is opened, and then its input can't be read.
-        let steps = [
-            Step::Lines(0, &TWO_LINES[..12]),
-            Step::Refuses(6, b"damaged: kafka.lines 0: byte 1\n"),
-        ];
-        assert_eq!(rt; first_astray(alloc, &mut host, &steps)?, None);
-        assert_eq!(rt; counts(alloc, &mut host)?, (1, opened, 5));
-        let changes = records(alloc, &mut host, CHANGES)?;
-        let store = folded(alloc, changes.as_slice())?;
-        assert!(rt; has_just(alloc, &store, FIRST_STORE)?);
-    }
+    assert_eq!(rt;
+        crash_in_the_gate(alloc, Pick::Old)?,
+        Some((Left::First, 4, 6))
+    );
+    assert_eq!(rt;
+        crash_in_the_gate(alloc, Pick::New)?,
+        Some((Left::First, 6, 8))
+    );
     Ok(())
+}
+
+/// What a crash in the checkpoint's gate leaves, and how many records the changelog has once the next run ended well. None
+/// where a run goes astray.
+fn crash_in_the_last_gate(alloc: Global, pick: Pick) -> Result<Option<(Left, u64)>, Fail> {
+    let mut host = begin(alloc, Start::Second)?;
+    if !is_stopped(alloc, &mut host, OPENING + 10, pick)? {
+        return Ok(None);
+    }
+    let left = what_is_left(alloc, &mut host)?;
+    if !goes_on(alloc, &mut host, left)? {
+        return Ok(None);
+    }
+    let (_, count) = whole_changelog(alloc, &mut host, SECOND_STORE)?;
+    Ok(Some((left, count)))
 }
 
 #[test]
 fn a_crash_in_the_checkpoints_gate_leaves_one_of_two(rt: HostRuntime) -> Result<(), Fail> {
     let alloc = rt.alloc();
-    let gate = OPENING + 10;
-    for (pick, left, changes) in [
-        (Pick::Fill(0x43), Left::First, 8),
-        (Pick::Fill(0x4F), Left::Second, 4),
-    ] {
-        let mut host = begin(alloc, Start::Second)?;
-        assert!(rt; is_stopped(alloc, &mut host, gate, pick)?);
-        assert_eq!(rt; what_is_left(alloc, &mut host)?, left);
-        assert!(rt; goes_on(alloc, &mut host, left)?);
-        assert_eq!(rt; records(alloc, &mut host, CHANGES)?.len(), changes);
-    }
+    assert_eq!(rt;
+        crash_in_the_last_gate(alloc, Pick::Fill(0x43))?,
+        Some((Left::First, 8))
+    );
+    assert_eq!(rt;
+        crash_in_the_last_gate(alloc, Pick::Fill(0x4F))?,
+        Some((Left::Second, 4))
+    );
     Ok(())
 }

@@ -2,8 +2,7 @@
 use crate::examples::{
     CONFIGURATION, COUNTS, MORE_COUNTS, MORE_TOTALS, THREE_LINES, TOTALS, TWO_LINES,
 };
-use crate::steps::{Step, astray_in};
-use std::alloc::Global;
+use crate::steps::{Scenario, Step, first_failed};
 use std::test::Fail;
 
 /// A log without a record.
@@ -42,61 +41,70 @@ const EIGHT_OF_EACH: &[u8] =
 const REPORT_OF_EIGHT: &[u8] =
     b"container 0 tasks 1\nPartition 0 checkpoint 1 new 2\n  input kafka.lines 0 next 2 end 2\n  store a keys 2\n  store b keys 0\n  store c keys 0\n  store counts keys 0\n  store d keys 0\n  store e keys 0\n  store f keys 0\n  store g keys 0\n  output k.h sent 3\n  output k.g sent 0\n  output k.f sent 0\n  output k.e sent 0\n  output k.d sent 0\n  output k.c sent 0\n  output k.b sent 0\n  output k.a sent 0\ntotal new 2\n";
 
-/// The first step that goes astray with the example's configuration and these lines behind it.
-fn astray_with(alloc: Global, lines: &[u8], steps: &[Step]) -> Result<Option<usize>, Fail> {
-    let mut text = Vec::from_slice(alloc, CONFIGURATION)?;
-    text.extend_from_slice(lines)?;
-    astray_in(alloc, text.as_slice(), steps)
-}
-
-#[test]
-fn another_store_and_output_are_kept_beside_the_first(rt: HostRuntime) -> Result<(), Fail> {
-    let steps = [
-        Step::Lines(0, TWO_LINES),
-        Step::Reports(REPORT_OF_TWO),
-        Step::Has(0, CHECKPOINT_OF_TWO),
-        Step::Has(1, COUNTS),
-        Step::Has(2, NO_RECORDS),
-        Step::Has(16, TOTALS),
-        Step::Has(17, NO_RECORDS),
-        Step::Lines(0, THREE_LINES),
-        Step::Reports(NEXT_REPORT_OF_TWO),
-        Step::Has(0, CHECKPOINTS_OF_TWO),
-        Step::Has(1, MORE_COUNTS),
-        Step::Has(2, NO_RECORDS),
-        Step::Has(16, MORE_TOTALS),
-        Step::Has(17, NO_RECORDS),
-    ];
-    assert_eq!(rt; astray_with(rt.alloc(), TWO_OF_EACH, &steps)?, None);
-    Ok(())
-}
-
-#[test]
-fn words_are_counted_in_the_first_store_by_name(rt: HostRuntime) -> Result<(), Fail> {
-    let steps = [
-        Step::Lines(0, TWO_LINES),
-        Step::Reports(REPORT_OF_ABOUT),
-        Step::Has(0, CHECKPOINT_OF_ABOUT),
-        Step::Has(1, COUNTS),
-        Step::Has(2, NO_RECORDS),
-        Step::Has(16, TOTALS),
-    ];
-    assert_eq!(rt; astray_with(rt.alloc(), ANOTHER_BEFORE, &steps)?, None);
-    Ok(())
-}
-
-#[test]
-fn eight_stores_and_eight_outputs_are_run(rt: HostRuntime) -> Result<(), Fail> {
-    for file in 1..8 {
-        let steps = [
+const SEVERAL: &[Scenario] = &[
+    Scenario {
+        shows: "another store and output are kept beside the first",
+        text: CONFIGURATION,
+        lines: TWO_OF_EACH,
+        steps: &[
+            Step::Lines(0, TWO_LINES),
+            Step::Reports(REPORT_OF_TWO),
+            Step::Has(0, CHECKPOINT_OF_TWO),
+            Step::Has(1, COUNTS),
+            Step::Has(2, NO_RECORDS),
+            Step::Has(16, TOTALS),
+            Step::Has(17, NO_RECORDS),
+            Step::Lines(0, THREE_LINES),
+            Step::Reports(NEXT_REPORT_OF_TWO),
+            Step::Has(0, CHECKPOINTS_OF_TWO),
+            Step::Has(1, MORE_COUNTS),
+            Step::Has(2, NO_RECORDS),
+            Step::Has(16, MORE_TOTALS),
+            Step::Has(17, NO_RECORDS),
+        ],
+    },
+    Scenario {
+        shows: "words are counted in the first store by name",
+        text: CONFIGURATION,
+        lines: ANOTHER_BEFORE,
+        steps: &[
+            Step::Lines(0, TWO_LINES),
+            Step::Reports(REPORT_OF_ABOUT),
+            Step::Has(0, CHECKPOINT_OF_ABOUT),
+            Step::Has(1, COUNTS),
+            Step::Has(2, NO_RECORDS),
+            Step::Has(16, TOTALS),
+        ],
+    },
+    Scenario {
+        shows: "eight stores and eight outputs are run",
+        text: CONFIGURATION,
+        lines: EIGHT_OF_EACH,
+        steps: &[
             Step::Lines(0, TWO_LINES),
             Step::Reports(REPORT_OF_EIGHT),
             Step::Has(1, COUNTS),
+            Step::Has(2, NO_RECORDS),
+            Step::Has(3, NO_RECORDS),
+            Step::Has(4, NO_RECORDS),
+            Step::Has(5, NO_RECORDS),
+            Step::Has(6, NO_RECORDS),
+            Step::Has(7, NO_RECORDS),
+            Step::Has(8, NO_RECORDS),
             Step::Has(16, TOTALS),
-            Step::Has(1 + file, NO_RECORDS),
-            Step::Has(16 + file, NO_RECORDS),
-        ];
-        assert_eq!(rt; astray_with(rt.alloc(), EIGHT_OF_EACH, &steps)?, None);
-    }
+            Step::Has(17, NO_RECORDS),
+            Step::Has(18, NO_RECORDS),
+            Step::Has(19, NO_RECORDS),
+            Step::Has(20, NO_RECORDS),
+            Step::Has(21, NO_RECORDS),
+            Step::Has(22, NO_RECORDS),
+            Step::Has(23, NO_RECORDS),
+        ],
+    },
+];
+
+#[test]
+fn several_stores_and_outputs_are_run(rt: HostRuntime) -> Result<(), Fail> {
+    assert_eq!(rt; first_failed(rt.alloc(), SEVERAL)?, None);
     Ok(())
 }

@@ -104,8 +104,8 @@ fn ends(
     Ok(ended.status == status && ended.out.bytes() == out && ended.err.bytes() == err)
 }
 
-/// Takes a step, and tells whether it goes as it is to.
-pub(crate) fn goes(alloc: Global, host: &mut MemHost, step: Step) -> Result<bool, Fail>
+/// Takes a step that wants nothing of the folder.
+fn take(alloc: Global, host: &mut MemHost, step: Step) -> Result<(), Fail>
     requires { NoneOut (host_disks_out host.old) (host_shelves_out host.old) }
     ensures { NoneOut (host_disks_out host.new) (host_shelves_out host.new) }
 {
@@ -115,17 +115,27 @@ pub(crate) fn goes(alloc: Global, host: &mut MemHost, step: Step) -> Result<bool
         Step::Fail(call) => host.fail_next(vec![in alloc; call]?),
         Step::Stop(calls) => host.arm(&TASK, Vec::new(alloc), Some(calls))?,
         Step::Crash(pick) => host.crash(&TASK, pick),
-        Step::Ends(words, status, out, err) => {
-            return ends(alloc, host, words, status, out, err);
-        }
-        Step::Reports(report) => return ends(alloc, host, &["run", "f"], 0, report, b""),
-        Step::Refuses(status, line) => {
-            return ends(alloc, host, &["run", "f"], status, b"", line);
-        }
-        Step::Has(file, bytes) => return Ok(host.file(&TASK, file) == bytes),
-        Step::Faults(count) => return Ok(host.faults() == count),
+        _ => {}
     }
-    Ok(true)
+    Ok(())
+}
+
+/// Takes a step, and tells whether it goes as it is to.
+pub(crate) fn goes(alloc: Global, host: &mut MemHost, step: Step) -> Result<bool, Fail>
+    requires { NoneOut (host_disks_out host.old) (host_shelves_out host.old) }
+    ensures { NoneOut (host_disks_out host.new) (host_shelves_out host.new) }
+{
+    match step {
+        Step::Ends(words, status, out, err) => ends(alloc, host, words, status, out, err),
+        Step::Reports(report) => ends(alloc, host, &["run", "f"], 0, report, b""),
+        Step::Refuses(status, line) => ends(alloc, host, &["run", "f"], status, b"", line),
+        Step::Has(file, bytes) => Ok(host.file(&TASK, file) == bytes),
+        Step::Faults(count) => Ok(host.faults() == count),
+        _ => {
+            take(alloc, host, step)?;
+            Ok(true)
+        }
+    }
 }
 
 /// The number of the first step that doesn't go as it is to, counted from 0; None where all of them do.
@@ -149,4 +159,37 @@ pub(crate) fn first_astray(
 pub(crate) fn astray_in(alloc: Global, text: &[u8], steps: &[Step]) -> Result<Option<usize>, Fail> {
     let mut host = folder(alloc, text)?;
     first_astray(alloc, &mut host, steps)
+}
+
+/// Steps over a new folder.
+#[derive(Clone, Copy)]
+pub(crate) struct Scenario {
+    /// What they show.
+    pub(crate) shows: &'static str,
+    /// The folder's configuration, and more lines of it.
+    pub(crate) text: &'static [u8],
+    pub(crate) lines: &'static [u8],
+    pub(crate) steps: &'static [Step<'static>],
+}
+
+/// A configuration with these lines behind it.
+pub(crate) fn with_lines(alloc: Global, text: &[u8], lines: &[u8]) -> Result<Vec<u8>, Fail> {
+    let mut all = Vec::from_slice(alloc, text)?;
+    all.extend_from_slice(lines)?;
+    Ok(all)
+}
+
+/// What the first scenario shows of which a step goes astray, and that step's number; None where all of them go as they
+/// are to.
+pub(crate) fn first_failed(
+    alloc: Global,
+    scenarios: &[Scenario],
+) -> Result<Option<(&'static str, usize)>, Fail> {
+    for scenario in scenarios {
+        let text = with_lines(alloc, scenario.text, scenario.lines)?;
+        if let Some(number) = astray_in(alloc, text.as_slice(), scenario.steps)? {
+            return Ok(Some((scenario.shows, number)));
+        }
+    }
+    Ok(None)
 }
