@@ -1,4 +1,8 @@
-use disk_model::{Disk, DiskName, Host, Shelf};
+ghost use Rattle.std.specs.Prelude.{◌≡◌, IfOk};
+ghost use Rattle.disk_model.specs.Handles.{NoneOut};
+ghost use Rattle.file_host.specs.Folders.{folder_disks_out, folder_shelves_out};
+
+use disk_model::{Disk, DiskFault, DiskName, Host, Shelf};
 use file_host::*;
 use samza_model::Bin;
 use std::alloc::Global;
@@ -12,47 +16,66 @@ fn stream_in(alloc: Global) -> Result<DiskName, Fail> {
     })
 }
 
-// The folders stand in the one that the tests are run in.
+/// The host of a folder of the one that the tests are run in.
+fn folder(rt: &HostRuntime, name: &str) -> Result<FileHost<HostRuntime>, Fail>
+    ensures { IfOk result (λ h. NoneOut (folder_disks_out h) (folder_shelves_out h)) }
+{
+    let mut host = FileHost::new(rt.clone()?);
+    host.enter(rt.alloc(), name)?;
+    Ok(host)
+}
+
+/// What a disk tells of a file of six bytes of which two were cut off: its size, whether a read past its end is refused,
+/// three of its bytes, and how many calls were made.
+fn cut_file(
+    disk: &mut FileDisk<HostRuntime>,
+    file: u32,
+) -> Result<(u64, bool, [u8; 3], u64), DiskFault>
+    ensures { ⟦<FileDisk<HostRuntime> as Disk>⟧.name disk.new ≡ ⟦<FileDisk<HostRuntime> as Disk>⟧.name disk.old }
+{
+    disk.write_at(file, 0, b"abcdef")?;
+    disk.cut(file, 4)?;
+    disk.sync(file)?;
+    let mut bytes = [0u8; 3];
+    let is_refused = disk.read_at(file, 2, &mut bytes).is_err();
+    disk.read_at(file, 1, &mut bytes)?;
+    let size = disk.size(file)?;
+    Ok((size, is_refused, bytes, disk.calls()))
+}
 
 #[test]
 fn a_folder_keeps_what_a_disk_writes(rt: HostRuntime) -> Result<(), Fail> {
-    let alloc = rt.alloc();
-    let mut host = FileHost::new(rt.clone()?);
-    host.enter(alloc, "keeps")?;
+    let mut host = folder(&rt, "keeps")?;
     let task = DiskName::Task(7);
-    let mut disk = host.lend(alloc, &task)?;
-    disk.write_at(3, 0, b"abcdef")?;
-    disk.cut(3, 4)?;
-    disk.sync(3)?;
-    let mut bytes = [0u8; 3];
-    let is_refused = disk.read_at(3, 2, &mut bytes).is_err();
-    disk.read_at(3, 1, &mut bytes)?;
-    assert_eq!(rt;
-        (disk.size(3)?, is_refused, bytes),
-        (4, true, [98, 99, 100])
-    );
-    assert_eq!(rt; disk.calls(), 6);
+    let mut disk = host.lend(rt.alloc(), &task)?;
+    let told = cut_file(&mut disk, 3);
     host.take_disk(&task, disk);
-    assert_eq!(rt; host.faults(), 1);
+    assert_eq!(rt; (told?, host.faults()), ((4, true, [98, 99, 100], 6), 1));
     Ok(())
+}
+
+/// What a shelf tells of a file of three bytes: its size, whether a read past its end is refused, and its last two bytes.
+fn last_bytes(shelf: &mut FileShelf) -> Result<(u64, bool, [u8; 2]), DiskFault>
+    ensures { ⟦<FileShelf as Shelf>⟧.name shelf.new ≡ ⟦<FileShelf as Shelf>⟧.name shelf.old }
+{
+    let mut bytes = [0u8; 2];
+    let is_refused = shelf.read_at(2, &mut bytes).is_err();
+    shelf.read_at(1, &mut bytes)?;
+    let size = shelf.size()?;
+    Ok((size, is_refused, bytes))
 }
 
 #[test]
 fn a_folder_shows_its_files(rt: HostRuntime) -> Result<(), Fail> {
-    let alloc = rt.alloc();
-    let mut host = FileHost::new(rt.clone()?);
-    host.enter(alloc, "shows")?;
-    let name = stream_in(alloc)?;
-    let mut disk = host.lend(alloc, &name)?;
-    disk.write_at(11, 0, b"xyz")?;
-    host.take_disk(&name, disk);
-    let mut shelf = host.shelf(alloc, &name, 11)?;
-    let mut bytes = [0u8; 2];
-    let is_refused = shelf.read_at(2, &mut bytes).is_err();
-    shelf.read_at(1, &mut bytes)?;
-    assert_eq!(rt; (shelf.size()?, is_refused, bytes), (3, true, [121, 122]));
+    let mut host = folder(&rt, "shows")?;
+    let name = stream_in(rt.alloc())?;
+    fs::create_dir_all(&rt, "shows/streams/kafka/in.1")?;
+    fs::write(&rt, "shows/streams/kafka/in.1/11.log", b"xyz".as_slice())?;
+    let mut shelf = host.shelf(rt.alloc(), &name, 11)?;
+    let told = last_bytes(&mut shelf);
     host.take_shelf(shelf);
-    assert!(rt; host.text(alloc)?.is_none() && host.faults() == 1);
+    assert_eq!(rt; (told?, host.faults()), ((3, true, [121, 122]), 1));
+    assert!(rt; host.text(rt.alloc())?.is_none());
     Ok(())
 }
 
@@ -70,11 +93,12 @@ const FILES: &[(&str, u32)] = &[
     ("4294967295.log", 4294967295),
 ];
 
-/// The path of a file of the stream.
-fn file_of_stream(alloc: Global, file: &str) -> Result<String, Fail> {
-    let mut path = String::from_str(alloc, "counts/streams/kafka/in.1/")?;
+/// Makes an empty file of the stream.
+fn make_file(rt: &HostRuntime, file: &str) -> Result<(), Fail> {
+    let mut path = String::from_str(rt.alloc(), "counts/streams/kafka/in.1/")?;
     path.push_str(file)?;
-    Ok(path)
+    fs::write(rt, path.as_str(), b"".as_slice())?;
+    Ok(())
 }
 
 /// How many partitions the stream has.
@@ -84,32 +108,47 @@ fn partitions(alloc: Global, host: &mut FileHost<HostRuntime>) -> Result<u32, Fa
     Ok(host.partitions(alloc, &system, &stream)?)
 }
 
+/// How many of the files are made until another number of partitions is counted than it is to be.
+fn counted_well(rt: &HostRuntime, host: &mut FileHost<HostRuntime>) -> Result<usize, Fail> {
+    for (made, (file, count)) in FILES.iter().enumerate() {
+        make_file(rt, file)?;
+        if partitions(rt.alloc(), host)? != *count {
+            return Ok(made);
+        }
+    }
+    Ok(FILES.len())
+}
+
 #[test]
 fn partitions_are_counted_by_the_files_names(rt: HostRuntime) -> Result<(), Fail> {
-    let mut host = FileHost::new(rt.clone()?);
-    host.enter(rt.alloc(), "counts")?;
+    let mut host = folder(&rt, "counts")?;
     let _ = fs::remove_dir_all(&rt, "counts");
     assert_eq!(rt; partitions(rt.alloc(), &mut host)?, 0);
     fs::create_dir_all(&rt, "counts/streams/kafka/in.1")?;
-    for (file, count) in FILES {
-        let path = file_of_stream(rt.alloc(), file)?;
-        fs::write(&rt, path.as_str(), b"".as_slice())?;
-        assert_eq!(rt; partitions(rt.alloc(), &mut host)?, *count, "with {file}");
-    }
+    assert_eq!(rt; counted_well(&rt, &mut host)?, FILES.len());
     Ok(())
+}
+
+/// The configuration's text that a folder has, and whether a folder in its place is told as a fault.
+fn texts(
+    rt: &HostRuntime,
+    host: &mut FileHost<HostRuntime>,
+) -> Result<(Option<Vec<u8>>, bool), Fail> {
+    fs::write(rt, "text/job.properties", b"a=b".as_slice())?;
+    let text = host.text(rt.alloc())?;
+    fs::remove_file(rt, "text/job.properties")?;
+    fs::create_dir(rt, "text/job.properties")?;
+    let is_fault = host.text(rt.alloc()).is_err();
+    Ok((text, is_fault))
 }
 
 #[test]
 fn the_configuration_is_a_file(rt: HostRuntime) -> Result<(), Fail> {
-    let mut host = FileHost::new(rt.clone()?);
-    host.enter(rt.alloc(), "text")?;
+    let mut host = folder(&rt, "text")?;
     let _ = fs::remove_dir_all(&rt, "text");
     fs::create_dir(&rt, "text")?;
-    fs::write(&rt, "text/job.properties", b"a=b".as_slice())?;
-    let text = host.text(rt.alloc())?.ok_or("no text")?;
-    assert_eq!(rt; text.as_slice(), b"a=b".as_slice());
-    fs::remove_file(&rt, "text/job.properties")?;
-    fs::create_dir(&rt, "text/job.properties")?;
-    assert!(rt; host.text(rt.alloc()).is_err() && host.faults() == 1);
+    let (text, is_fault) = texts(&rt, &mut host)?;
+    assert!(rt; text.is_some_and(|text| text.as_slice() == b"a=b".as_slice()));
+    assert!(rt; is_fault && host.faults() == 1);
     Ok(())
 }

@@ -1,4 +1,5 @@
 ghost use Rattle.std.specs.Prelude.{◌≡◌, IfOk};
+ghost use Rattle.disk_model.specs.Handles.{NoneOut};
 ghost use Rattle.disk_model.specs.MemoryHost.{host_disks_out, host_shelves_out};
 
 use disk_model::*;
@@ -24,15 +25,20 @@ fn syncs(alloc: Global, fail_at: Vec<u64>, stop_after: Option<u64>) -> Result<[b
     Ok([first, second, third, fourth])
 }
 
+/// The size and the bytes of file 1 once it was emptied, and how many calls that and a read of nothing took.
+fn emptied(disk: &mut MemDisk) -> Result<(u64, usize, u64), DiskFault> {
+    disk.cut(1, 0)?;
+    disk.read_at(1, 0, &mut [])?;
+    let size = disk.size(1)?;
+    Ok((size, disk.bytes(1).len(), disk.calls()))
+}
+
 #[test]
 fn a_disk_reads_what_was_written(rt: HostRuntime) -> Result<(), Fail> {
     let mut disk = small_disk(rt.alloc(), Vec::new(rt.alloc()), None)?;
-    disk.write_at(1, 0, b"abc")?;
-    assert_eq!(rt; disk.bytes(1), b"abc".as_slice());
-    disk.cut(1, 0)?;
-    assert_eq!(rt; (disk.size(1)?, disk.bytes(1).len()), (0, 0));
-    disk.read_at(1, 0, &mut [])?;
-    assert_eq!(rt; (disk.calls(), disk.faults()), (4, 0));
+    let is_written = disk.write_at(1, 0, b"abc").is_ok();
+    assert!(rt; is_written && disk.bytes(1) == b"abc".as_slice());
+    assert_eq!(rt; (emptied(&mut disk)?, disk.faults()), ((0, 0, 4), 0));
     Ok(())
 }
 
@@ -100,13 +106,20 @@ fn partitions_in(alloc: Global, host: &mut MemHost) -> Result<u32, Fail> {
     Ok(host.partitions(alloc, &system, &stream)?)
 }
 
+/// A host whose disk of this name has "xyz" in file 1.
+fn host_of(alloc: Global, name: &DiskName) -> Result<MemHost, Fail>
+    ensures { IfOk result (λ h. NoneOut (host_disks_out h) (host_shelves_out h)) }
+{
+    let mut host = MemHost::new(alloc, None, 64, 16)?;
+    host.put_file(name, 1, b"xyz")?;
+    Ok(host)
+}
+
 #[test]
 fn a_host_shows_the_files_that_were_put(rt: HostRuntime) -> Result<(), Fail> {
-    let mut host = MemHost::new(rt.alloc(), None, 64, 16)?;
     let name = stream_in(rt.alloc())?;
-    host.put_file(&name, 1, b"xyz")?;
-    assert_eq!(rt; host.file(&name, 1), b"xyz".as_slice());
-    assert_eq!(rt; host.file(&name, 0).len(), 0);
+    let mut host = host_of(rt.alloc(), &name)?;
+    assert!(rt; host.file(&name, 1) == b"xyz".as_slice() && host.file(&name, 0).is_empty());
     assert_eq!(rt; partitions_in(rt.alloc(), &mut host)?, 2);
     Ok(())
 }
@@ -124,9 +137,8 @@ fn a_hosts_calls_fail_where_they_are_told_to(rt: HostRuntime) -> Result<(), Fail
 
 #[test]
 fn the_calls_of_an_armed_shelf_fail(rt: HostRuntime) -> Result<(), Fail> {
-    let mut host = MemHost::new(rt.alloc(), None, 64, 16)?;
     let name = stream_in(rt.alloc())?;
-    host.put_file(&name, 1, b"xyz")?;
+    let mut host = host_of(rt.alloc(), &name)?;
     host.arm(&name, Vec::new(rt.alloc()), Some(0))?;
     let mut shelf = host.shelf(rt.alloc(), &name, 1)?;
     let size = shelf.size();
@@ -135,50 +147,52 @@ fn the_calls_of_an_armed_shelf_fail(rt: HostRuntime) -> Result<(), Fail> {
     Ok(())
 }
 
-/// A disk with "abcd" synced and "wx" written over it in file 0, and "gh" and then "ij" written in file 1, of whose next
-/// calls the first is to fail.
-fn torn_disk(alloc: Global) -> Result<MemDisk, Fail> {
-    let mut disk = MemDisk::new(alloc, DiskName::Task(0), 2, 16, 16, Vec::new(alloc), None)?;
+/// Writes "abcd" to file 0 and, behind a sync, "wx" over it, and "gh" and then "ij" to file 1.
+fn tear(disk: &mut MemDisk) -> Result<(), DiskFault> {
     disk.write_at(0, 0, b"abcd")?;
     disk.sync(0)?;
     disk.write_at(0, 0, b"wx")?;
     disk.write_at(1, 0, b"gh")?;
-    disk.write_at(1, 2, b"ij")?;
+    disk.write_at(1, 2, b"ij")
+}
+
+/// A disk that was written so, of whose next calls the first is to fail.
+fn torn_disk(alloc: Global) -> Result<MemDisk, Fail> {
+    let mut disk = MemDisk::new(alloc, DiskName::Task(0), 2, 16, 16, Vec::new(alloc), None)?;
+    tear(&mut disk)?;
     disk.arm(vec![in alloc; 0]?, None);
     Ok(disk)
 }
 
+/// What a crash image of that disk has in its two files, at each pick.
+const IMAGES: [(Pick, &[u8], &[u8]); 4] = [
+    // what was synced
+    (Pick::Old, b"abcd", b""),
+    // what was written
+    (Pick::New, b"wxcd", b"ghij"),
+    // the value where bytes are free
+    (Pick::Fill(0x21), b"!!cd", b"!!!!"),
+    // the front of each write
+    (Pick::Cut(1), b"wbcd", b"g\0i"),
+];
+
 #[test]
-fn the_old_image_has_the_synced_bytes(rt: HostRuntime) -> Result<(), Fail> {
+fn each_image_has_its_bytes(rt: HostRuntime) -> Result<(), Fail> {
+    for (pick, first, second) in IMAGES {
+        let disk = torn_disk(rt.alloc())?.crash(pick);
+        assert_eq!(rt;
+            (disk.bytes(0), disk.bytes(1)),
+            (first, second),
+            "for {pick:?}"
+        );
+    }
+    Ok(())
+}
+
+#[test]
+fn the_calls_of_an_image_are_counted_anew(rt: HostRuntime) -> Result<(), Fail> {
     let mut disk = torn_disk(rt.alloc())?.crash(Pick::Old);
-    assert_eq!(rt; disk.bytes(0), b"abcd".as_slice());
-    assert_eq!(rt; disk.bytes(1).len(), 0);
-    assert_eq!(rt; disk.calls(), 0);
-    assert!(rt; disk.sync(0).is_ok());
-    Ok(())
-}
-
-#[test]
-fn the_new_image_has_the_written_bytes(rt: HostRuntime) -> Result<(), Fail> {
-    let disk = torn_disk(rt.alloc())?.crash(Pick::New);
-    assert_eq!(rt; disk.bytes(0), b"wxcd".as_slice());
-    assert_eq!(rt; disk.bytes(1), b"ghij".as_slice());
-    Ok(())
-}
-
-#[test]
-fn the_filled_image_has_the_value_where_bytes_are_free(rt: HostRuntime) -> Result<(), Fail> {
-    let disk = torn_disk(rt.alloc())?.crash(Pick::Fill(0x21));
-    assert_eq!(rt; disk.bytes(0), b"!!cd".as_slice());
-    assert_eq!(rt; disk.bytes(1), b"!!!!".as_slice());
-    Ok(())
-}
-
-#[test]
-fn the_cut_image_has_the_front_of_each_write(rt: HostRuntime) -> Result<(), Fail> {
-    let disk = torn_disk(rt.alloc())?.crash(Pick::Cut(1));
-    assert_eq!(rt; disk.bytes(0), b"wbcd".as_slice());
-    assert_eq!(rt; disk.bytes(1), b"g\0i".as_slice());
+    assert_eq!(rt; (disk.calls(), disk.sync(0)), (0, Ok(())));
     Ok(())
 }
 
@@ -205,9 +219,8 @@ fn a_host_has_the_crash_image_in_place_of_the_disk(rt: HostRuntime) -> Result<()
     assert_eq!(rt; host.file(&task, 0), b"wxcd".as_slice());
     assert_eq!(rt; host.file(&DiskName::Task(1), 0), b"abcd".as_slice());
     let mut disk = host.lend(rt.alloc(), &task)?;
-    let calls = disk.calls();
-    let well = [disk.sync(0).is_ok(), disk.sync(0).is_ok()];
+    let well = (disk.calls(), disk.sync(0), disk.sync(0));
     host.take_disk(&task, disk);
-    assert!(rt; calls == 0 && well == [true, true]);
+    assert_eq!(rt; well, (0, Ok(()), Ok(())));
     Ok(())
 }
