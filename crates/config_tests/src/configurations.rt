@@ -151,17 +151,20 @@ const DEFAULTS: &[Want] = &[
     Want::Unread(""),
 ];
 
+/// Whether it is that of a word count named job, with no timeout, which commits between messages.
+fn is_plain(config: &JobConfig) -> bool {
+    let is_named = config.job.bytes() == b"job".as_slice();
+    let is_count = matches!(config.class, Class::WordCount);
+    is_named && is_count && config.timeout_ms == None && !config.async_commit
+}
+
 #[test]
 fn gives_the_defaults(rt: HostRuntime) {
     for want in DEFAULTS {
         assert!(rt; makes(rt.alloc(), "", *want));
     }
     match config_with(rt.alloc(), "") {
-        Ok(config) => {
-            let is_named = config.job.bytes() == b"job".as_slice();
-            assert!(rt; is_named && matches!(config.class, Class::WordCount));
-            assert!(rt; config.timeout_ms == None && !config.async_commit);
-        }
+        Ok(config) => assert!(rt; is_plain(&config)),
         Err(_) => assert!(rt; false),
     }
 }

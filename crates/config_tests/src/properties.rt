@@ -1,6 +1,6 @@
 // Texts from the documentation of java.util.Properties, from worked examples, and what the JDK made of texts.
 
-use props_text::{PropsFault, read, write, write_text, written_comes_back};
+use props_text::{Pairs, PropsFault, read, write, write_text, written_comes_back};
 use std::alloc::Global;
 
 fn reads_as(alloc: Global, text: &[u8], want: &[u8]) -> bool {
@@ -20,9 +20,29 @@ fn is_malformed_in(alloc: Global, text: &[u8], number: u64) -> bool {
     }
 }
 
+/// The first of these texts that isn't read as its pairs.
+fn first_misread<'a>(alloc: Global, rows: &[(&'a [u8], &[u8])]) -> Option<&'a [u8]> {
+    for (text, want) in rows {
+        if !reads_as(alloc, text, want) {
+            return Some(*text);
+        }
+    }
+    None
+}
+
+/// The first of these texts of which no malformed escape is told, or another line.
+fn first_mistold<'a>(alloc: Global, rows: &[(&'a [u8], u64)]) -> Option<&'a [u8]> {
+    for (text, number) in rows {
+        if !is_malformed_in(alloc, text, *number) {
+            return Some(*text);
+        }
+    }
+    None
+}
+
 /// Texts, and the pairs that java.util.Properties of OpenJDK 17 reads in them, as `write` writes pairs. They were had by
 /// tools/compare_properties.py.
-const READ_BY_JAVA: [(&[u8], &[u8]); 26] = [
+const READ_BY_JAVA: &[(&[u8], &[u8])] = &[
     (b"a=1\rb=2\r\nc=3\nd=4", b"a=1\nb=2\nc=3\nd=4\n"),
     (b" \t\x0ckey \t\x0c value \t", b"key=value\\u0020\\u0009\n"),
     (
@@ -76,7 +96,7 @@ const READ_BY_JAVA: [(&[u8], &[u8]); 26] = [
 ];
 
 /// Texts that java.util.Properties of OpenJDK 17 refuses, had likewise, and the line of each one's first malformed escape.
-const REFUSED_BY_JAVA: [(&[u8], u64); 8] = [
+const REFUSED_BY_JAVA: &[(&[u8], u64)] = &[
     (b"a=1\nb=\\u", 2),
     (b"a=\\u00g0", 1),
     (b"\\u004=1", 1),
@@ -88,7 +108,7 @@ const REFUSED_BY_JAVA: [(&[u8], u64); 8] = [
 ];
 
 /// Texts from the documentation, and the pairs in them.
-const READ: [(&[u8], &[u8]); 6] = [
+const READ: &[(&[u8], &[u8])] = &[
     (
         b"Truth = Beauty\n Truth:Beauty2\nTruth\t\t:Beauty3",
         b"Truth=Beauty3\n",
@@ -107,7 +127,7 @@ const READ: [(&[u8], &[u8]); 6] = [
 ];
 
 /// Texts with a malformed escape, and the line of the first one.
-const MALFORMED: [(&[u8], u64); 3] = [
+const MALFORMED: &[(&[u8], u64)] = &[
     (b"# \\uZ\na=1\nb=\\\n  \\u00G1\nc=\\u", 4),
     (b"a=\\u00\\\n4", 1),
     (b"\r\n\r\\u00=4", 3),
@@ -115,48 +135,39 @@ const MALFORMED: [(&[u8], u64); 3] = [
 
 #[test]
 fn reads_the_texts_of_the_jdk(rt: HostRuntime) {
-    for (text, want) in READ {
-        assert!(rt; reads_as(rt.alloc(), text, want), "{text:?}");
-    }
+    assert_eq!(rt; first_misread(rt.alloc(), READ), None);
 }
 
 #[test]
 fn tells_the_line_of_the_first_malformed_escape(rt: HostRuntime) {
-    for (text, number) in MALFORMED {
-        assert!(rt; is_malformed_in(rt.alloc(), text, number), "{text:?}");
-    }
+    assert_eq!(rt; first_mistold(rt.alloc(), MALFORMED), None);
+}
+
+/// Whether the pairs are two, of which one has the key b and none the key c.
+fn are_two(pairs: &Pairs) -> bool {
+    let is_found = pairs.get(&[98]).is_some() && pairs.get(&[99]).is_none();
+    is_found && pairs.len() == 2 && pairs.nth(1).is_some() && pairs.nth(2).is_none()
 }
 
 #[test]
 fn shows_the_pairs_by_rising_keys(rt: HostRuntime) {
-    let alloc = rt.alloc();
     written_comes_back();
-    if let Ok(pairs) = read(alloc, b"b=2\na=1") {
-        assert!(rt; pairs.len() == 2);
-        assert!(rt; pairs.get(&[98]).is_some());
-        assert!(rt; pairs.get(&[99]).is_none());
-        assert!(rt; pairs.nth(1).is_some());
-        assert!(rt; pairs.nth(2).is_none());
-    } else {
-        assert!(rt; false);
+    match read(rt.alloc(), b"b=2\na=1") {
+        Ok(pairs) => assert!(rt; are_two(&pairs)),
+        Err(_) => assert!(rt; false),
     }
-    if let Ok(text) = write_text(alloc, &[35, 233]) {
-        assert!(rt; text.as_slice() == b"\\#\\u00E9".as_slice());
-    } else {
-        assert!(rt; false);
+    match write_text(rt.alloc(), &[35, 233]) {
+        Ok(text) => assert!(rt; text.as_slice() == b"\\#\\u00E9".as_slice()),
+        Err(_) => assert!(rt; false),
     }
 }
 
 #[test]
 fn reads_what_java_reads(rt: HostRuntime) {
-    for (text, want) in READ_BY_JAVA {
-        assert!(rt; reads_as(rt.alloc(), text, want), "{text:?}");
-    }
+    assert_eq!(rt; first_misread(rt.alloc(), READ_BY_JAVA), None);
 }
 
 #[test]
 fn refuses_what_java_refuses(rt: HostRuntime) {
-    for (text, number) in REFUSED_BY_JAVA {
-        assert!(rt; is_malformed_in(rt.alloc(), text, number), "{text:?}");
-    }
+    assert_eq!(rt; first_mistold(rt.alloc(), REFUSED_BY_JAVA), None);
 }

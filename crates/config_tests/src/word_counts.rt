@@ -64,25 +64,41 @@ fn is_wanted(act: &Act, want: Want) -> bool {
     }
 }
 
-fn answer_to(act: &Act) -> Answer {
-    match act {
-        Act::Get { .. } => Answer::Missing,
+/// How such an act is answered, where each key is missing.
+fn answer_to(want: Want) -> Answer {
+    match want {
+        Want::Get(_) => Answer::Missing,
         _ => Answer::Noted,
     }
 }
 
-/// Whether the job acts on the message so, where it is answered that each key is missing.
-fn acts_so(alloc: Global, value: Option<Bin>, wants: &[Want]) -> Result<bool, NoMemory> {
-    let message = message(alloc, value)?;
+/// Whether the job acts on the message so behind these answers.
+fn is_acted(
+    alloc: Global,
+    message: &Envelope,
+    answers: &[Answer],
+    want: Want,
+) -> Result<bool, NoMemory> {
+    let act = WordCount.act(alloc, message, answers)?;
+    Ok(is_wanted(&act, want))
+}
+
+/// Whether these are the job's acts on the message, where it is answered that each key is missing.
+fn are_acts(alloc: Global, message: &Envelope, wants: &[Want]) -> Result<bool, NoMemory> {
     let mut answers = Vec::new(alloc);
     for want in wants {
-        let act = WordCount.act(alloc, &message, answers.as_slice())?;
-        if !is_wanted(&act, *want) {
+        if !is_acted(alloc, message, answers.as_slice(), *want)? {
             return Ok(false);
         }
-        answers.push(answer_to(&act))?;
+        answers.push(answer_to(*want))?;
     }
     Ok(true)
+}
+
+/// The same of a message of this value.
+fn acts_so(alloc: Global, value: Option<Bin>, wants: &[Want]) -> Result<bool, NoMemory> {
+    let message = message(alloc, value)?;
+    are_acts(alloc, &message, wants)
 }
 
 const TWO_WORDS: &[Want] = &[
@@ -120,11 +136,9 @@ const STORED: &[(&str, Want)] = &[
 
 /// Whether the job acts so where it is answered that the store has this value of the word w.
 fn counts_on(alloc: Global, found: &str, want: Want) -> Result<bool, NoMemory> {
-    let word = bin(alloc, "w")?;
-    let message = message(alloc, Some(word))?;
-    let found = bin(alloc, found)?;
-    let act = WordCount.act(alloc, &message, &[Answer::Found(found)])?;
-    Ok(is_wanted(&act, want))
+    let found = [Answer::Found(bin(alloc, found)?)];
+    let message = message(alloc, Some(bin(alloc, "w")?))?;
+    is_acted(alloc, &message, &found, want)
 }
 
 #[test]

@@ -1,6 +1,7 @@
 // A checkpoint's record, both ways, and records that are none.
+use crate::records::list;
 use checkpoint_log::{CheckpointFault, decode_checkpoint, encode_checkpoint, is_well_formed};
-use samza_model::{Bin, Checkpoint, InputMark, Items, NoMemory, Plain, Record, StoreMark};
+use samza_model::{Bin, Checkpoint, InputMark, NoMemory, Plain, Record, StoreMark};
 use std::alloc::Global;
 use std::test::Fail;
 
@@ -22,12 +23,6 @@ fn record(alloc: Global, key: &[u8], value: &[u8]) -> Result<Record, NoMemory> {
         key: Bin::of(alloc, key)?,
         value: Some(Bin::of(alloc, value)?),
     })
-}
-
-fn list<T: Drop>(alloc: Global, item: T) -> Result<Items<T>, NoMemory> {
-    let mut items = Vec::new(alloc);
-    items.push(item)?;
-    Ok(Items::from_vec(items))
 }
 
 fn input(alloc: Global) -> Result<InputMark, NoMemory> {

@@ -1,4 +1,4 @@
-use crate::records::set;
+use crate::records::{records, set};
 use log_frame::{BadAt, Checked, Frame, FrameFault, check, decode, encode, frame_len, frames_of};
 use samza_model::NoMemory;
 use std::alloc::Global;
@@ -56,12 +56,8 @@ fn a_header_tells_how_many_bytes_to_read(rt: HostRuntime) {
 
 /// How many records each frame has of three records in frames of two.
 fn counts_of_three(alloc: Global) -> Result<[Option<u32>; 3], NoMemory> {
-    let records = [
-        set(alloc, b"a", b"1")?,
-        set(alloc, b"b", b"1")?,
-        set(alloc, b"c", b"1")?,
-    ];
-    let frames = frames_of(alloc, &records, 2)?;
+    let records = records(alloc, &[(b"a", None), (b"b", None), (b"c", None)])?;
+    let frames = frames_of(alloc, records.as_slice(), 2)?;
     let count = |i: usize| frames.get(i).map(Frame::count);
     Ok([count(0), count(1), count(2)])
 }

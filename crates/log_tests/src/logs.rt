@@ -7,7 +7,7 @@ ghost use Rattle.samza_model.specs.Limits.{IsFrameable, IsWithinLimits};
 ghost use Rattle.topic_log.specs.Batches.{HasPlace};
 ghost use Rattle.topic_log.specs.Opened.{is_broken, IsOpen};
 
-use crate::records::{removal, set};
+use crate::records::{records, removal, set};
 use checkpoint_log::last;
 use disk_model::{Disk, DiskName, Host, MemDisk, MemHost};
 use log_frame::{Frame, frames_of};
@@ -181,12 +181,9 @@ fn two_lists(alloc: Global) -> Result<Vec<Items<Record>>, NoMemory>
 }
 
 fn two_frames(alloc: Global) -> Result<Vec<Frame>, NoMemory> {
-    let records = [
-        set(alloc, b"a", b"1")?,
-        removal(alloc, b"b")?,
-        set(alloc, b"c", b"2")?,
-    ];
-    frames_of(alloc, &records, 2)
+    let three = [(b"a", Some(b"1")), (b"b", None), (b"c", Some(b"2"))];
+    let records = records(alloc, &three)?;
+    frames_of(alloc, records.as_slice(), 2)
 }
 
 /// The bytes of a log to which these frames were appended, and how many records it was said to have before and behind that.
@@ -230,15 +227,29 @@ fn batch_of<D: Disk>(
     log.batch(alloc, disk, place)
 }
 
+/// The same, where a batch is there.
+fn next_batch<D: Disk>(
+    alloc: Global,
+    log: &mut Log,
+    disk: &mut D,
+    place: Place,
+) -> Result<(Items<Record>, Place), Fail>
+    requires place { D.tells → (frames before : List (List RecordValue)) × HasPlace (D.reads disk.old) (D.images disk.old) log.old place frames before }
+    requires sound { is_broken log.old ≡ false }
+    ensures behind { IfOk result (λ b. D.tells → (frames before : List (List RecordValue)) × HasPlace (D.reads disk.new) (D.images disk.new) log.new b.1 frames before) }
+    ensures sound { OnOk result (is_broken log.new ≡ false) }
+{
+    let batch = batch_of(alloc, log, disk, place)?;
+    Ok(batch.ok_or("no batch")?)
+}
+
 /// The batches of the log of two lists, the places behind each, and whether no batch stands behind them.
 fn two_batches(alloc: Global) -> Result<([Items<Record>; 2], [Place; 2], bool), Fail> {
     let mut disk = disk_of(alloc, &TWO)?;
     let mut log = Log::open_log(alloc, &mut disk, 0)?;
     let start = log.start();
-    let first = batch_of(alloc, &mut log, &mut disk, start)?;
-    let (first, middle) = first.ok_or("no batch")?;
-    let second = batch_of(alloc, &mut log, &mut disk, middle)?;
-    let (second, end) = second.ok_or("one batch")?;
+    let (first, middle) = next_batch(alloc, &mut log, &mut disk, start)?;
+    let (second, end) = next_batch(alloc, &mut log, &mut disk, middle)?;
     let is_end = batch_of(alloc, &mut log, &mut disk, end)?.is_none();
     Ok((
         [first, second],
@@ -281,18 +292,30 @@ fn breaks<D: Disk>(alloc: Global, log: &mut Log, disk: &mut D, frames: &[Frame])
     }
 }
 
+/// How many device calls the opening of an empty file makes.
+fn opening_calls(alloc: Global) -> Result<u64, Fail> {
+    let mut disk = empty_disk(alloc, None)?;
+    Log::open_log(alloc, &mut disk, 0)?;
+    Ok(disk.calls())
+}
+
+/// Whether an append to an empty log breaks it, where the disk's calls behind the first so many fail.
+fn is_broken_behind(alloc: Global, calls: u64, frames: &[Frame]) -> Result<bool, Fail> {
+    let mut disk = empty_disk(alloc, Some(calls))?;
+    let mut log = Log::open_log(alloc, &mut disk, 0)?;
+    Ok(breaks(alloc, &mut log, &mut disk, frames) && disk.faults() > 0)
+}
+
 #[test]
 fn a_log_is_broken_by_each_call_that_fails(rt: HostRuntime) -> Result<(), Fail> {
-    let alloc = rt.alloc();
-    let frames = two_frames(alloc)?;
-    let mut whole = empty_disk(alloc, None)?;
-    Log::open_log(alloc, &mut whole, 0)?;
-    let opened = whole.calls();
+    let frames = two_frames(rt.alloc())?;
+    let opened = opening_calls(rt.alloc())?;
     for more in 0..6 {
-        let mut disk = empty_disk(alloc, Some(opened.saturating_add(more)))?;
-        let mut log = Log::open_log(alloc, &mut disk, 0)?;
-        assert!(rt; breaks(alloc, &mut log, &mut disk, frames.as_slice()));
-        assert!(rt; disk.faults() > 0);
+        let calls = opened.saturating_add(more);
+        assert!(rt;
+            is_broken_behind(rt.alloc(), calls, frames.as_slice())?,
+            "behind {calls}"
+        );
     }
     Ok(())
 }

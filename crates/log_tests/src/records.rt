@@ -1,8 +1,9 @@
-// Small records, of which the examples are made.
-ghost use Rattle.std.specs.Prelude.{IfOk};
+// Small records and lists, of which the examples are made.
+ghost use Rattle.std.specs.Prelude.{◌≡◌, IfOk, length};
+ghost use Rattle.std.specs.List.{AllByRecursion};
 ghost use Rattle.samza_model.specs.Limits.{IsWithinLimits};
 
-use samza_model::{Bin, NoMemory, Record};
+use samza_model::{Bin, Items, NoMemory, Record};
 use std::alloc::Global;
 
 pub(crate) fn set(alloc: Global, key: &[u8; 1], value: &[u8; 1]) -> Result<Record, NoMemory>
@@ -22,4 +23,31 @@ pub(crate) fn removal(alloc: Global, key: &[u8; 1]) -> Result<Record, NoMemory>
         key: Bin::of(alloc, key)?,
         value: None,
     })
+}
+
+/// The list of this item alone.
+pub(crate) fn list<T: Drop>(alloc: Global, item: T) -> Result<Items<T>, NoMemory>
+    ensures { IfOk result (λ list. length list ≡ 1) }
+{
+    let mut items = Vec::new(alloc);
+    items.push(item)?;
+    Ok(Items::from_vec(items))
+}
+
+/// A key, and its value or none.
+pub(crate) type Row = (&'static [u8; 1], Option<&'static [u8; 1]>);
+
+/// Records of these keys and values; one without a value takes its key away.
+pub(crate) fn records(alloc: Global, rows: &[Row]) -> Result<Vec<Record>, NoMemory>
+    ensures { IfOk result (λ r. AllByRecursion IsWithinLimits r.items) }
+{
+    let mut records = Vec::new(alloc);
+    for (key, value) in rows {
+        let record = match value {
+            Some(value) => set(alloc, key, value)?,
+            None => removal(alloc, key)?,
+        };
+        records.push(record)?;
+    }
+    Ok(records)
 }

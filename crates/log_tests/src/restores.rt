@@ -3,12 +3,12 @@ ghost use Rattle.std.specs.Prelude.{◌≡◌, length, IfOk};
 ghost use Rattle.std.specs.List.{AllByRecursion};
 ghost use Rattle.samza_model.specs.Limits.{IsWithinLimits};
 
-use crate::records::{removal, set};
+use crate::records::{list, records};
 use changelog::frames_of;
 use checkpoint_log::{encode_checkpoint, is_well_formed};
 use disk_model::{Disk, DiskName, MemDisk};
 use kv_store::Table;
-use restore_trim::{OpenFault, restore, topic_name};
+use restore_trim::{OpenFault, Restored, restore, topic_name};
 use samza_model::{
     Bin, Checkpoint, Items, NoMemory, Record, Setup, Ssp, StoreMark, StoreSetup, TaskName,
 };
@@ -16,14 +16,6 @@ use std::alloc::Global;
 use std::slice;
 use std::test::Fail;
 use topic_log::{Log, LogFault};
-
-fn list<T: Drop>(alloc: Global, item: T) -> Result<Items<T>, NoMemory>
-    ensures { IfOk result (λ list. length list ≡ 1) }
-{
-    let mut items = Vec::new(alloc);
-    items.push(item)?;
-    Ok(Items::from_vec(items))
-}
 
 fn setup(alloc: Global) -> Result<Setup, NoMemory>
     ensures { IfOk result (λ setup. (length setup.stores ≡ 1) × (length setup.outputs ≡ 1)) }
@@ -89,14 +81,14 @@ fn commit<D: Disk>(alloc: Global, disk: &mut D) -> Result<(), LogFault> {
 
 /// The changes (a, 1) and (b, 1).
 fn change<D: Disk>(alloc: Global, disk: &mut D) -> Result<(), LogFault> {
-    let records = [set(alloc, b"a", b"1")?, set(alloc, b"b", b"1")?];
-    append(alloc, disk, 1, &records)
+    let changes = records(alloc, &[(b"a", Some(b"1")), (b"b", Some(b"1"))])?;
+    append(alloc, disk, 1, changes.as_slice())
 }
 
 /// The changes (a, 2), and without b.
 fn change_again<D: Disk>(alloc: Global, disk: &mut D) -> Result<(), LogFault> {
-    let records = [set(alloc, b"a", b"2")?, removal(alloc, b"b")?];
-    append(alloc, disk, 1, &records)
+    let changes = records(alloc, &[(b"a", Some(b"2")), (b"b", None)])?;
+    append(alloc, disk, 1, changes.as_slice())
 }
 
 /// Whether the table has just (a, 1) and (b, 1).
@@ -131,17 +123,23 @@ fn disk_with_tail(alloc: Global) -> Result<MemDisk, Fail> {
     Ok(disk)
 }
 
-/// How many records the changelog has once the task is restored. None where it has no checkpoint, or another store than
-/// that of the checkpoint.
-fn restored_with(alloc: Global, disk: &mut MemDisk) -> Result<Option<u64>, Fail> {
-    let setup = setup(alloc)?;
-    let restored = restore(alloc, disk, &setup)?;
+/// How many records the one changelog has; None where there is no checkpoint, or the store is another than that of the
+/// checkpoint.
+fn length_of(alloc: Global, restored: &Restored) -> Result<Option<u64>, NoMemory> {
     match (restored.tables.as_slice(), restored.changelogs.as_slice()) {
         ([table], [log]) if restored.checkpoint.is_some() && has_both(alloc, table)? => {
             Ok(Some(log.len()))
         }
         _ => Ok(None),
     }
+}
+
+/// How many records the changelog has once the task is restored. None where it has no checkpoint, or another store than
+/// that of the checkpoint.
+fn restored_with(alloc: Global, disk: &mut MemDisk) -> Result<Option<u64>, Fail> {
+    let setup = setup(alloc)?;
+    let restored = restore(alloc, disk, &setup)?;
+    Ok(length_of(alloc, &restored)?)
 }
 
 #[test]

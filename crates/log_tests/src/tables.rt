@@ -3,7 +3,7 @@ ghost use Rattle.std.specs.Prelude.{◌≡◌, length, IfOk};
 ghost use Rattle.kv_store.specs.Tracked.{IsDirty, undone};
 
 use kv_store::{Table, TrackedTable, Undo};
-use samza_model::{Bin, NoMemory};
+use samza_model::{Bin, NoMemory, Record};
 use std::alloc::Global;
 use std::test::Fail;
 
@@ -83,31 +83,53 @@ fn remove(alloc: Global, table: &mut TrackedTable, key: &[u8; 1]) -> Result<Undo
     table.change(alloc, key, None)
 }
 
+/// Takes (a, 1) away, and sets (b, 2).
+fn change_both(alloc: Global, table: &mut TrackedTable) -> Result<(), NoMemory> {
+    remove(alloc, table, b"a")?;
+    put(alloc, table, b"b", b"2")?;
+    Ok(())
+}
+
+/// Whether the records are those of these changes.
+fn are_both(records: &[Record]) -> bool {
+    match records {
+        [first, second] => {
+            is_text(Some(&first.key), Some(b"a"))
+                && first.value.is_none()
+                && is_text(second.value.as_ref(), Some(b"2"))
+        }
+        _ => false,
+    }
+}
+
 #[test]
 fn changes_are_logged_once(rt: HostRuntime) -> Result<(), Fail> {
     let mut table = one_logged(rt.alloc())?;
-    remove(rt.alloc(), &mut table, b"a")?;
-    put(rt.alloc(), &mut table, b"b", b"2")?;
+    change_both(rt.alloc(), &mut table)?;
     assert!(rt; table.len() == 1 && table.dirty() == 2);
-    match table.unlogged(rt.alloc())?.as_slice() {
-        [first, second] => {
-            assert!(rt; is_text(Some(&first.key), Some(b"a")) && first.value.is_none());
-            assert!(rt; is_text(second.value.as_ref(), Some(b"2")));
-        }
-        _ => assert!(rt; false),
-    }
+    assert!(rt; are_both(table.unlogged(rt.alloc())?.as_slice()));
     Ok(())
+}
+
+/// Takes a away, whether it is gone then, and sets (b, 2); and takes both back.
+fn change_and_take_back(
+    alloc: Global,
+    table: &mut TrackedTable,
+    a: &Bin,
+) -> Result<bool, NoMemory> {
+    let taken = remove(alloc, table, b"a")?;
+    let is_gone = table.next(a).is_none();
+    let put = put(alloc, table, b"b", b"2")?;
+    table.take_back(put);
+    table.take_back(taken);
+    Ok(is_gone)
 }
 
 #[test]
 fn changes_are_taken_back(rt: HostRuntime) -> Result<(), Fail> {
-    let mut table = one_logged(rt.alloc())?;
     let key = bin(rt.alloc(), b"a")?;
-    let taken = remove(rt.alloc(), &mut table, b"a")?;
-    assert!(rt; table.next(&key).is_none());
-    let put = put(rt.alloc(), &mut table, b"b", b"2")?;
-    table.take_back(put);
-    table.take_back(taken);
+    let mut table = one_logged(rt.alloc())?;
+    assert!(rt; change_and_take_back(rt.alloc(), &mut table, &key)?);
     assert!(rt; table.len() == 1 && table.dirty() == 0);
     assert!(rt; is_text(table.get(&key), Some(b"1")));
     Ok(())

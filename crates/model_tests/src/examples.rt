@@ -88,12 +88,20 @@ fn checkpoint(alloc: Global) -> Result<Checkpoint, NoMemory> {
     })
 }
 
+/// The file of that checkpoint, where it is well formed.
+fn spelled(alloc: Global) -> Result<Bin, Fail> {
+    let c = checkpoint(alloc)?;
+    if is_well_formed(&c) {
+        Ok(spell_checkpoint(alloc, &c)?)
+    } else {
+        Err("not well formed".into())
+    }
+}
+
 #[test]
 fn a_file_of_one_checkpoint_has_these_83_bytes(rt: HostRuntime) -> Result<(), Fail> {
     let alloc = rt.alloc();
-    let c = checkpoint(alloc)?;
-    assert!(rt; is_well_formed(&c));
-    let bytes = spell_checkpoint(alloc, &c)?;
+    let bytes = spelled(alloc)?;
     let want = [
         0x4F, 0, 0, 0, 0x49, 0, 0, 0, 1, // gate, bytes of the records, records
         0, 0, 0, 8, 0, 0, 0, 0, 0, 0, 0, 1, // the checkpoint's number
@@ -215,8 +223,8 @@ fn sent(state: &PlainState, want: &[(&str, &str)]) -> bool {
     }
 }
 
-/// What messages of these values leave, from nothing; None where one of them isn't done.
-fn left_by(alloc: Global, values: &[Option<&str>]) -> Result<Option<PlainState>, NoMemory> {
+/// Messages of these values, from offset 0 on.
+fn messages(alloc: Global, values: &[Option<&str>]) -> Result<Vec<Envelope>, NoMemory> {
     let mut messages = Vec::new(alloc);
     for value in values {
         let value = match value {
@@ -225,6 +233,12 @@ fn left_by(alloc: Global, values: &[Option<&str>]) -> Result<Option<PlainState>,
         };
         messages.push(message(alloc, messages.len() as u64, value)?)?;
     }
+    Ok(messages)
+}
+
+/// What messages of these values leave, from nothing; None where one of them isn't done.
+fn left_by(alloc: Global, values: &[Option<&str>]) -> Result<Option<PlainState>, NoMemory> {
+    let messages = messages(alloc, values)?;
     let setup = word_setup(alloc)?;
     let state = blank(alloc)?;
     fold_all(alloc, &WordCount, &setup, messages.as_slice(), state)
@@ -246,12 +260,21 @@ fn a_message_that_fails_leaves_no_state(rt: HostRuntime) -> Result<(), Fail> {
     Ok(())
 }
 
+/// How a message ends that is counted from this state on.
+fn end_from(
+    alloc: Global,
+    message: &Envelope,
+    state: &mut PlainState,
+) -> Result<Option<Why>, NoMemory> {
+    let setup = word_setup(alloc)?;
+    run_one(alloc, &WordCount, &setup, message, state)
+}
+
 /// How a message of this value ends, and what it leaves.
 fn end_of(alloc: Global, value: Option<Bin>) -> Result<(Option<Why>, PlainState), NoMemory> {
     let message = message(alloc, 0, value)?;
-    let setup = word_setup(alloc)?;
     let mut state = blank(alloc)?;
-    let end = run_one(alloc, &WordCount, &setup, &message, &mut state)?;
+    let end = end_from(alloc, &message, &mut state)?;
     Ok((end, state))
 }
 
