@@ -1,5 +1,5 @@
 // A store's changelog.
-ghost use Rattle.std.specs.Prelude.{◌≡◌, ◌≢◌, ◌+◌, ◌^◌, ◌<◌, ◌≤◌, ◌⊎◌, ◌↔◌, ◌++◌, ◌∷◌, [], ℕ, true, false, List, length, IsTrue, IfOk, IfErr, OnOk};
+ghost use Rattle.std.specs.Prelude.{◌≡◌, ◌≢◌, ◌+◌, ◌^◌, ◌<◌, ◌≤◌, ◌⊎◌, ◌↔◌, ◌++◌, ◌∷◌, [], ℕ, true, false, List, length, IsTrue, IfOk, IfErr, OnErr, OnOk};
 ghost use Rattle.std.specs.List.{AllByRecursion};
 ghost use Rattle.samza_model.specs.declared.messages.Record.{Record};
 ghost use Rattle.samza_model.specs.Counters.{Rose};
@@ -9,8 +9,8 @@ ghost use Rattle.kv_store.specs.Tracked.{AreWithinLimits};
 ghost use Rattle.log_frame.specs.Frame.{AreFrames};
 ghost use Rattle.topic_log.specs.declared.logs.Log.{Log as LogValue};
 ghost use Rattle.topic_log.specs.Damage.{IsDamagedAt};
-ghost use Rattle.topic_log.specs.Moves.{Rests};
-ghost use Rattle.topic_log.specs.Opened.{file_of, count_of, size_of, is_broken, IsOpen, Appends, KeepsFrames};
+ghost use Rattle.topic_log.specs.Moves.{Rests, Same};
+ghost use Rattle.topic_log.specs.Opened.{file_of, count_of, size_of, is_broken, IsLeft, IsOpen, Appends, KeepsExtent, KeepsFrames};
 ghost use Rattle.topic_log.specs.Steps.{closed_frames};
 ghost use Rattle.changelog.specs.Folds.{IsFold};
 
@@ -46,12 +46,14 @@ impl Changelog {
     ) -> Result<Changelog, LogFault>
         // The changelog has the frames that the file had, in every image.
         ensures opened { IfOk result (λ log. D.tells → (frames : List (List Record)) × HasFrames (D.reads disk.old file) frames × IsOpen (D.reads disk.new) (D.images disk.new) log frames) }
+        ensures left { IfOk result (λ log. D.tells → IsLeft (D.reads disk.old file) (D.reads disk.new file) (size_of log)) }
         ensures file { IfOk result (λ log. file_of log ≡ file) }
         ensures sound { IfOk result (λ log. is_broken log ≡ false) }
         ensures elsewhere { OnOk result (D.tells → SameElsewhere file (D.reads disk.old) (D.reads disk.new)) }
 
-        // A crash at any moment leaves the frames that the image had.
+        // A crash at any moment leaves the frames that the image had. After a refusal, but for `Device`, nothing was written.
         ensures any_moment { D.tells → LeavesOnly D.call_number D.images D.images_since disk.old disk.new (KeepsFrames file) }
+        ensures untouched { IfErr result (λ e. e ≢ LogFault.Device → D.tells → (D.reads disk.new ≡ D.reads disk.old) × LeavesOnly D.call_number D.images D.images_since disk.old disk.new Same) }
         ensures others { D.tells → (log : LogValue) (frames : List (List Record)) → file_of log ≢ file
             → IsOpen (D.reads disk.old) (D.images disk.old) log frames → IsOpen (D.reads disk.new) (D.images disk.new) log frames }
 
@@ -119,6 +121,7 @@ impl Changelog {
         ensures never { IfErr result (λ e. e ≢ LogFault.Limit) }
         ensures breaks { IfErr result (λ e. (is_broken self.new ≡ true) ↔ ((e ≡ LogFault.Broken) ⊎ (e ≡ LogFault.Device))) }
         ensures kept { IfErr result (λ e. e ≢ LogFault.Device → self.new ≡ self.old) }
+        ensures extent { OnErr result (KeepsExtent self.old self.new) }
         ensures file { file_of self.new ≡ file_of self.old }
         ensures later { D.fault_count disk.old ≤ D.fault_count disk.new }
         ensures name { D.name disk.new ≡ D.name disk.old }
@@ -172,6 +175,7 @@ impl Changelog {
         ensures sound { OnOk result (is_broken self.new ≡ false) }
         ensures breaks { IfErr result (λ e. (is_broken self.new ≡ true) ↔ ((e ≡ LogFault.Broken) ⊎ (e ≡ LogFault.Device))) }
         ensures refused { IfErr result (λ e. e ≢ LogFault.Device → (self.new ≡ self.old) × (disk.new ≡ disk.old)) }
+        ensures extent { OnErr result (KeepsExtent self.old self.new) }
         ensures later { D.fault_count disk.old ≤ D.fault_count disk.new }
         ensures name { D.name disk.new ≡ D.name disk.old }
     {

@@ -83,6 +83,7 @@ opening_leaves s a b step = record {
     each_store = λ i lt. holds_still (changelog_file i) (count_at mark i) (store_at contents i) a b step (r.each_store i lt);
     each_output = λ j lt. let log = r.each_output j lt in (log.0, sends_stay j log.0 a b step log.1);
   };
+  files = step;
   sends = λ j had lt log. sends_stay j had a b step log;
 }
 

@@ -1,10 +1,10 @@
 -- What a crash leaves of logs that are opened and read one after another, of which some are appended to.
-use Rattle.std.proofs.Common.{ℕ, ◌≡◌, ◌≢◌, ◌≤◌, ◌<◌, inl, inr, List, [], ◌++◌, sym, subst, arith, append_assoc}
+use Rattle.std.proofs.Common.{ℕ, ◌≡◌, ◌≢◌, ◌≤◌, ◌<◌, inl, inr, List, [], ◌++◌, refl, sym, ◌∙◌, ap, subst, arith, append_assoc}
 use Rattle.std.proofs.lemmas.Bool.{cases_eq}
 use Rattle.std.proofs.lemmas.List.{append-nil}
 use Rattle.samza_model.specs.declared.messages.Record.{Record}
 use Rattle.samza_model.specs.Files.{Image, output_file}
-use Rattle.samza_model.specs.Logs.{HasFrames}
+use Rattle.samza_model.specs.Logs.{HasFrames, HasNoLog}
 use Rattle.disk_model.specs.Images.{LeavesOnly}
 use Rattle.disk_model.proofs.Moments.{started, followed, weaker}
 use Rattle.topic_log.specs.declared.logs.Log.{Log}
@@ -29,7 +29,7 @@ no_more : (file : ℕ) (frames : List (List Record)) (c : Image) → HasFrames (
 no_more file frames c has = ([], subst (λ (fs : List (List Record)). HasFrames (c file) fs) (sym (append-nil frames)) has)
 
 pub all_stays : (c : Image) → TailsGrow c c
-all_stays c = record { kept = λ f frames none has. has; grown = λ f frames has. no_more f frames c has }
+all_stays c = record { kept = λ f frames none has. has; grown = λ f frames has. no_more f frames c has; lost = λ f none. refl }
 
 pub grows_twice : (a b c : Image) → TailsGrow a b → TailsGrow b c → TailsGrow a c
 grows_twice a b c p q = record {
@@ -38,6 +38,9 @@ grows_twice a b c p q = record {
       let one = p.grown f frames has in
       let two = q.grown f (frames ++ one.0) one.1 in
       (one.0 ++ two.0, subst (λ (fs : List (List Record)). HasFrames (c f) fs) (append_assoc frames one.0 two.0) two.1);
+  lost = λ f none.
+      let same : b f ≡ a f = p.lost f none in
+      q.lost f (subst (λ (bytes : List ℕ). HasNoLog bytes) (sym same) none) ∙ same;
 }
 
 kept_here : (file : ℕ) (a b : Image) → KeepsFrames file a b → (f : ℕ) (frames : List (List Record)) → HasFrames (a f) frames → HasFrames (b f) frames
@@ -50,6 +53,12 @@ keeps_grow : (file : ℕ) (a b : Image) → KeepsFrames file a b → TailsGrow a
 keeps_grow file a b k = record {
   kept = λ f frames none has. kept_here file a b k f frames has;
   grown = λ f frames has. no_more f frames b (kept_here file a b k f frames has);
+  lost = λ f none. elim (cases_eq f file) [
+    | inl e ↦
+        let here : b file ≡ a file = k.lost (subst (λ (n : ℕ). HasNoLog (a n)) e none) in
+        ap b e ∙ here ∙ ap a (sym e)
+    | inr ne ↦ k.elsewhere f ne
+  ];
 }
 
 -- a changelog's file is appended to
@@ -68,6 +77,7 @@ appends_grow file had more a b low high was step = record {
         (here.0, subst (λ (n : ℕ). HasFrames (b n) (frames ++ here.0)) (sym e) (subst (λ (fs : List (List Record)). HasFrames (b file) (fs ++ here.0)) same here.1))
     | inr ne ↦ no_more f frames b (same_has f frames a b (step.elsewhere f ne) has)
   ];
+  lost = λ f none. step.elsewhere f (λ e. absurd (none had (subst (λ (n : ℕ). HasFrames (a n) had) (sym e) was)));
 }
 
 module _ {D : Type 0} (reads : D → Image) (number : D → ℕ) (images : D → Image → Type 0) (since : D → ℕ → Image → Type 0) where

@@ -12,6 +12,8 @@ use Rattle.disk_model.specs.Images.{LeavesOnly}
 use Rattle.disk_model.proofs.Moments.{started, weaker, followed_from}
 use Rattle.disk_model.proofs.SameDisks.{same_at_trans, same_disk_refl}
 use Rattle.restore_trim.specs.Crashes.{OpeningLeaves}
+use Rattle.restore_trim.proofs.Outcomes.{opening_leaves}
+use Rattle.restore_trim.proofs.Tails.{all_stays}
 use Rattle.task_unit.specs.Units.{UnitValue, CommitLeaves}
 use Rattle.samza_container.specs.Leaves.{FinishLeaves, LeavesAt, LeftInCommit, RunLeaves}
 use Rattle.samza_container.specs.Runs.{Advances, Does}
@@ -94,7 +96,7 @@ given_back number images since number' images' since' reads₀ reads₁ reads₂
 
 -- where nothing was done
 pub nothing_left : (job : Meaning) (s : Setup) (input : List ℕ) (before c : Image) → RunLeaves job s input before c c
-nothing_left job s input before c = inl (record { restores = λ mark contents restores. restores; sends = λ j had lt log. log })
+nothing_left job s input before c = inl (opening_leaves s c c (all_stays c))
 
 -- a host that left a disk as it was, and then did more
 pub same_then : {H : Type 0} (reads : H → DiskName → Image) (images : H → DiskName → Image → Type 0) (since : H → DiskName → ℕ → Image → Type 0) (number files : H → DiskName → ℕ)

@@ -13,7 +13,7 @@ use Rattle.topic_log.proofs.Logged.{open_log_has}
 use Rattle.topic_log.proofs.Spelling.{frames_unique}
 
 produces_kept : (file : ℕ) (body : Record) (a b : Image) → KeepsFrames file a b → Produces file body a b
-produces_kept file body a b k = record { here = λ frames has. inl (k.here frames has); elsewhere = k.elsewhere }
+produces_kept file body a b k = record { here = λ frames has. inl (k.here frames has); lost = k.lost; elsewhere = k.elsewhere }
 
 module _ {D : Type 0} (number : D → ℕ) (images : D → Image → Type 0) (since : D → ℕ → Image → Type 0) where
   -- the file was opened
@@ -30,11 +30,13 @@ module _ {D : Type 0} (number : D → ℕ) (images : D → Image → Type 0) (si
   produces_appended reads old mid new file body log before counts one is h two =
       followed_from number images since old mid new (KeepsFrames file) (Appends file before ((body ∷ []) ∷ [])) (Produces file body) counts one
       (subst (λ (f : ℕ). LeavesOnly number images since mid new (Appends f before ((body ∷ []) ∷ []))) is two)
-      (λ a b c was now k s. record {
+      (λ a b c was now k s.
+      let has_before : HasFrames (b file) before = subst (λ (f : ℕ). HasFrames (b f) before) is (open_log_has (reads mid) (images mid) log before h b now) in
+      record {
         here = λ frames has.
-            let has_before : HasFrames (b file) before = subst (λ (f : ℕ). HasFrames (b f) before) is (open_log_has (reads mid) (images mid) log before h b now) in
             let same : before ≡ frames = frames_unique (b file) before frames has_before (k.here frames has) in
             subst (λ (fs : List (List Record)). HasFrames (c file) fs ⊎ HasFrames (c file) (fs ++ (body ∷ []) ∷ [])) same s.here;
+        lost = λ none. absurd (none before (subst (λ (bytes : List ℕ). HasFrames bytes before) (k.lost none) has_before));
         elsewhere = λ f other. s.elsewhere f other ∙ k.elsewhere f other;
       })
       (λ a b was k. produces_kept file body a b k)

@@ -5,7 +5,7 @@ use Rattle.samza_model.specs.declared.messages.Record.{Record}
 use Rattle.samza_model.specs.Files.{Image}
 use Rattle.samza_model.specs.Frames.{frame_bytes}
 use Rattle.samza_model.specs.Logs.{spelled, ReadsAs, HasFrames}
-use Rattle.disk_model.specs.Images.{Written, TornWrite, TornCut, Only}
+use Rattle.disk_model.specs.Images.{Written, Shortened, TornWrite, TornCut, Only}
 use Rattle.topic_log.specs.declared.extents.Place.{Place}
 use Rattle.topic_log.specs.declared.extents.Extent.{Extent}
 use Rattle.topic_log.specs.declared.logs.Log.{Log}
@@ -13,8 +13,8 @@ use Rattle.topic_log.specs.declared.windows.Window.{Window}
 use Rattle.topic_log.specs.Damage.{IsDamage, IsDamagedAt}
 use Rattle.topic_log.specs.Extents.{IsExtent, IsLastOf}
 use Rattle.topic_log.specs.Moves.{Moves, Rests, Same}
-use Rattle.topic_log.specs.Opened.{IsOpen, KeepsFrames}
-use Rattle.topic_log.specs.Walks.{Shows, IsClosed, HasBatch, Reaches, WalkedTo, Finds, IsGate, Settled, Repairs}
+use Rattle.topic_log.specs.Opened.{IsLeft, IsOpen, KeepsFrames}
+use Rattle.topic_log.specs.Walks.{Shows, IsClosed, HasBatch, Reaches, WalkedTo, Finds, IsGate, LacksGate, Settled, Repairs}
 use Rattle.topic_log.proofs.Moving.{weaken, then_from, rests_then}
 use Rattle.topic_log.proofs.Extending.{Grows, extent_grown}
 use Rattle.topic_log.proofs.Spelling.{spelled-push, frames_unique, reads_front}
@@ -67,19 +67,39 @@ pub record Walking {D N : Type 0} (tells : Type 0) (reads : D → Image) (number
   pub later : faults old ≤ faults new
   pub same_name : name new ≡ name old
 
--- a gate is made in an empty file
-pub gate_settles : (file gate : ℕ) (old new : Image) → length (old file) ≤ 1 → Written file 0 (0x43 ∷ []) old new → Settled file gate old new
-gate_settles file gate old new few made = record {
-  short = λ h. record { gate = 0x43; is = made.here ∙ ap (λ (l : List ℕ). 0x43 ∷ l) (drop_all 1 (old file) few); closed = λ e. absurd (omega (arith, e)) };
-  long = λ h. absurd (omega (arith, few, h));
-  elsewhere = made.elsewhere;
-}
+-- a gate is made in a file that lacks one
+pub gate_settles : (file gate : ℕ) (old new : Image) → LacksGate (old file) → Written file 0 (0x43 ∷ []) old new → Settled file gate old new
+gate_settles file gate old new lacks made =
+    let few : length (old file) ≤ 1 = elim lacks [ inl none ↦ omega (arith, ap length none) | inr one ↦ omega (arith, ap length one) ] in
+    let made_is : new file ≡ 0x43 ∷ [] = made.here ∙ ap (λ (l : List ℕ). 0x43 ∷ l) (drop_all 1 (old file) few) in
+    record {
+      short = λ h. record { gate = 0x43; is = made_is; closed = λ e. absurd (omega (arith, e)) };
+      left = record {
+        none = λ e. made_is;
+        opened = λ e. made_is;
+        closed = λ g closed e. elim lacks [
+          | inl none ↦ absurd (omega (arith, ap length e, ap length none))
+          | inr one ↦ let same : g ∷ [] ≡ 0x4F ∷ [] = sym e ∙ one in absurd (closed (cc same))
+        ];
+        frames = λ h. absurd (omega (arith, few, h));
+      };
+      elsewhere = made.elsewhere;
+    }
 
 pub gate_repairs : (file gate : ℕ) (a b : Image) → length (a file) ≤ 1 → TornWrite file 0 1 a b → Repairs file gate a b
 gate_repairs file gate a b few torn = record { short = λ h. omega (arith, torn.no_longer, few); long = λ h. absurd (omega (arith, few, h)); elsewhere = torn.elsewhere }
 
-pub gate_stands : (file gate : ℕ) (old : Image) → length (old file) ≤ 1 → IsGate (old file) → Settled file gate old old
-gate_stands file gate old few is = record { short = λ h. is; long = λ h. absurd (omega (arith, few, h)); elsewhere = λ f other. refl }
+pub gate_stands : (file gate : ℕ) (old : Image) → IsGate (old file) → Settled file gate old old
+gate_stands file gate old is = record {
+  short = λ h. is;
+  left = record {
+    none = λ e. absurd (omega (arith, ap length e, ap length is.is));
+    opened = λ e. let same : is.gate ∷ [] ≡ 0x4F ∷ [] = sym is.is ∙ e in absurd (is.closed (cc same));
+    closed = λ g closed e. e;
+    frames = λ h. absurd (omega (arith, ap length is.is, h));
+  };
+  elsewhere = λ f other. refl;
+}
 
 pub repairs_none : (file gate : ℕ) (a : Image) → Repairs file gate a a
 repairs_none file gate a = record { short = λ h. h; long = λ h. refl; elsewhere = λ f other. refl }
@@ -87,8 +107,28 @@ repairs_none file gate a = record { short = λ h. h; long = λ h. refl; elsewher
 pub cut_repairs : (file gate : ℕ) (a b : Image) → TornCut file (gate + 1) a b → Repairs file gate a b
 cut_repairs file gate a b torn = record { short = λ h. omega (arith, torn.no_longer, h); long = λ h. torn.before; elsewhere = torn.elsewhere }
 
+-- a file of frames is left so
+long_left : (old new : List ℕ) (size : ℕ) → 2 ≤ length old → new ≡ take size old → IsLeft old new size
+long_left old new size long is = record {
+  none = λ e. absurd (omega (arith, long, ap length e));
+  opened = λ e. absurd (omega (arith, long, ap length e));
+  closed = λ g closed e. absurd (omega (arith, long, ap length e));
+  frames = λ h. is;
+}
+
 pub whole_settled : (file gate : ℕ) (old : Image) → 2 ≤ length (old file) → length (old file) ≡ gate + 1 → Settled file gate old old
-whole_settled file gate old long is = record { short = λ h. absurd (omega (arith, long, h)); long = λ h. sym (take_all (gate + 1) (old file) (omega (arith, is))); elsewhere = λ f other. refl }
+whole_settled file gate old long is = record {
+  short = λ h. absurd (omega (arith, long, h));
+  left = long_left (old file) (old file) (gate + 1) long (sym (take_all (gate + 1) (old file) (omega (arith, is))));
+  elsewhere = λ f other. refl;
+}
+
+pub cut_settled : (file gate : ℕ) (old new : Image) → 2 ≤ length (old file) → Shortened file (gate + 1) old new → Settled file gate old new
+cut_settled file gate old new long cut = record {
+  short = λ h. absurd (omega (arith, long, h));
+  left = long_left (old file) (new file) (gate + 1) long cut.here;
+  elsewhere = cut.elsewhere;
+}
 
 -- the front of a file whose frames reach so far
 reach_front : (bytes : List ℕ) (e : Extent) (h : Reaches bytes e) → take (e.gate + 1) bytes ≡ spelled h.frames ++ h.reads.gate ∷ []
@@ -100,6 +140,7 @@ reach_front bytes e h =
 pub repairs_keep : (file : ℕ) (reads a c : Image) (e : Extent) → a file ≡ reads file → Finds (reads file) e → Repairs file e.gate a c → KeepsFrames file a c
 repairs_keep file reads a c e is (inl p) step = record {
   here = λ frames has. inl (step.short (omega (arith, ap length is, p.0)), frames_unique (a file) frames [] has (inl (omega (arith, ap length is, p.0), refl)));
+  lost = λ none. absurd (none [] (inl (omega (arith, ap length is, p.0), refl)));
   elsewhere = step.elsewhere;
 }
 repairs_keep file reads a c e is (inr p) step = record {
@@ -110,11 +151,12 @@ repairs_keep file reads a c e is (inr p) step = record {
       let front : take (e.gate + 1) (c file) ≡ spelled h.frames ++ h.reads.gate ∷ [] =
       step.long (omega (arith, ap length is, p.0)) ∙ ap (λ (l : List ℕ). take (e.gate + 1) l) is ∙ reach_front (reads file) e h in
       subst (λ (fs : List (List Record)). HasFrames (c file) fs) same (inr (reads_front (c file) h.frames h.reads.gate (e.gate + 1) h.reads.frameable h.reads.closed front));
+  lost = λ none. absurd (none p.1.frames (inr (subst (λ (l : List ℕ). ReadsAs l p.1.frames) (sym is) p.1.reads)));
   elsewhere = step.elsewhere;
 }
 
 pub keeps_none : (file : ℕ) (a : Image) → KeepsFrames file a a
-keeps_none file a = record { here = λ frames has. has; elsewhere = λ f other. refl }
+keeps_none file a = record { here = λ frames has. has; lost = λ none. refl; elsewhere = λ f other. refl }
 
 -- a log that was opened
 pub record OpensLog (bytes : List ℕ) (reads : Image) (images : Image → Type 0) (log : Log) : Type 0 where
@@ -132,7 +174,7 @@ opens file old new images log (inr p) settled only same =
       inr h.reads,
       record {
         gate = h.reads.gate;
-        bytes = ap new same ∙ settled.long p.0 ∙ reach_front (old file) log.extent h;
+        bytes = ap new same ∙ settled.left.frames p.0 ∙ reach_front (old file) log.extent h;
         closed = h.reads.closed;
         extent = h.extent_is;
         durable = subst (λ (f : ℕ). Only f new images) (sym same) only;

@@ -1,8 +1,8 @@
 -- Logs that are open, and what a crash may leave of them.
-use Rattle.std.specs.Prelude.{ℕ, ◌≡◌, ◌≢◌, ◌+◌, ◌⊎◌, Bool, List, [], ◌∷◌, ◌++◌}
+use Rattle.std.specs.Prelude.{ℕ, ◌≡◌, ◌≢◌, ◌+◌, ◌≤◌, ◌⊎◌, Bool, List, [], ◌∷◌, ◌++◌, length, take}
 use Rattle.samza_model.specs.declared.messages.Record.{Record}
 use Rattle.samza_model.specs.Files.{Image}
-use Rattle.samza_model.specs.Logs.{spelled, HasFrames}
+use Rattle.samza_model.specs.Logs.{spelled, HasFrames, HasNoLog}
 use Rattle.disk_model.specs.Images.{SameElsewhere, Only}
 use Rattle.topic_log.specs.declared.logs.Log.{Log}
 use Rattle.topic_log.specs.Extents.{IsExtent}
@@ -36,9 +36,22 @@ pub record IsOpen (reads : Image) (images : Image → Type 0) (log : Log) (frame
   pub extent : HasExtent log frames
   pub durable : Only log.file reads images
 
--- the file has the frames that it had, and the other files are the same
+-- What an opening leaves of a file, whose log has this size then: a closed gate where there was none or an open one alone, a closed
+-- gate alone as it is, and what stands behind the last gate is cut off.
+pub record IsLeft (old new : List ℕ) (size : ℕ) : Type 0 where
+  pub none : old ≡ [] → new ≡ 0x43 ∷ []
+  pub opened : old ≡ 0x4F ∷ [] → new ≡ 0x43 ∷ []
+  pub closed : (gate : ℕ) → gate ≢ 0x4F → old ≡ gate ∷ [] → new ≡ gate ∷ []
+  pub frames : 2 ≤ length old → new ≡ take size old
+
+-- the log's sizes and its last place are as they were
+abbrev pub KeepsExtent : Log → Log → Type 0
+KeepsExtent old new = new.extent ≡ old.extent
+
+-- the file has the frames that it had, or is as it was where it is no log, and the other files are the same
 pub record KeepsFrames (file : ℕ) (old new : Image) : Type 0 where
   pub here : (frames : List (List Record)) → HasFrames (old file) frames → HasFrames (new file) frames
+  pub lost : HasNoLog (old file) → new file ≡ old file
   pub elsewhere : SameElsewhere file old new
 
 -- the file has these frames, or those followed by more, and the other files are the same

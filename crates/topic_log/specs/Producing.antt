@@ -3,7 +3,7 @@ use Rattle.std.specs.Prelude.{ℕ, ◌≡◌, ◌<◌, ◌+◌, ◌^◌, ◌⊎�
 use Rattle.samza_model.specs.declared.messages.Record.{Record}
 use Rattle.samza_model.specs.Files.{Image}
 use Rattle.samza_model.specs.Frames.{frame_bytes}
-use Rattle.samza_model.specs.Logs.{spelled, joined, HasFrames}
+use Rattle.samza_model.specs.Logs.{spelled, joined, HasFrames, HasNoLog}
 use Rattle.disk_model.specs.Images.{SameElsewhere}
 
 -- behind the frames that it had, the file has one of this record, whose offset is the number of records before it
@@ -13,9 +13,11 @@ pub record IsProduced (before after : List ℕ) (body : Record) (offset : ℕ) :
   pub has : HasFrames after (frames ++ (body ∷ []) ∷ [])
   pub offset_is : offset ≡ length (joined frames)
 
--- the file has the frames that it had, or these and one of this record, and the other files are the same
+-- the file has the frames that it had, or these and one of this record, or is as it was where it is no log, and the other files
+-- are the same
 pub record Produces (file : ℕ) (body : Record) (old new : Image) : Type 0 where
   pub here : (frames : List (List Record)) → HasFrames (old file) frames → HasFrames (new file) frames ⊎ HasFrames (new file) (frames ++ (body ∷ []) ∷ [])
+  pub lost : HasNoLog (old file) → new file ≡ old file
   pub elsewhere : SameElsewhere file old new
 
 -- with a frame of this record the file would pass 2^40 bytes

@@ -9,6 +9,7 @@ use Rattle.log_frame.specs.Frame.{Begins}
 use Rattle.topic_log.specs.declared.extents.Extent.{Extent}
 use Rattle.topic_log.specs.declared.windows.Window.{Window}
 use Rattle.topic_log.specs.Extents.{IsExtent}
+use Rattle.topic_log.specs.Opened.{IsLeft}
 
 -- the window has the bytes of the file from its first one on
 abbrev pub Shows : Window → List ℕ → Type 0
@@ -58,10 +59,14 @@ pub record IsGate (bytes : List ℕ) : Type 0 where
   pub is : bytes ≡ gate ∷ []
   pub closed : gate ≢ 0x4F
 
+-- no byte, or a gate alone that is open
+abbrev pub LacksGate : List ℕ → Type 0
+LacksGate bytes = (bytes ≡ []) ⊎ (bytes ≡ 0x4F ∷ [])
+
 -- an empty file has one closed gate; another is cut behind the gate
 pub record Settled (file gate : ℕ) (old new : Image) : Type 0 where
   pub short : length (old file) ≤ 1 → IsGate (new file)
-  pub long : 2 ≤ length (old file) → new file ≡ take (gate + 1) (old file)
+  pub left : IsLeft (old file) (new file) (gate + 1)
   pub elsewhere : SameElsewhere file old new
 
 -- an empty file stays empty; another keeps its bytes up to the gate

@@ -34,7 +34,7 @@ pub struct Log {
 impl Log {
     ghost use Rattle.topic_log.specs.declared.logs.Log.{Log};
     ghost use Rattle.topic_log.specs.Batches.{HasPlace, IsNext};
-    ghost use Rattle.topic_log.specs.Opened.{file_of, count_of, size_of, is_broken, HasExtent, IsOpen, Appends, KeepsFrames};
+    ghost use Rattle.topic_log.specs.Opened.{file_of, count_of, size_of, is_broken, HasExtent, IsLeft, IsOpen, Appends, KeepsExtent, KeepsFrames};
 
     /// Opens the log of a file, which may be empty: reads it through, and leaves one closed gate behind its frames.
     ///
@@ -43,12 +43,14 @@ impl Log {
     pub fn open_log<D: Disk>(alloc: Global, disk: &mut D, file: u32) -> Result<Log, LogFault>
         // The log has the frames that the file had, in every image.
         ensures opened { IfOk result (λ log. D.tells → (frames : List (List Record)) × HasFrames (D.reads disk.old file) frames × IsOpen (D.reads disk.new) (D.images disk.new) log frames) }
+        ensures left { IfOk result (λ log. D.tells → IsLeft (D.reads disk.old file) (D.reads disk.new file) (size_of log)) }
         ensures file { IfOk result (λ log. file_of log ≡ file) }
         ensures sound { IfOk result (λ log. is_broken log ≡ false) }
         ensures elsewhere { OnOk result (D.tells → SameElsewhere file (D.reads disk.old) (D.reads disk.new)) }
 
-        // A crash at any moment leaves the frames that the image had.
+        // A crash at any moment leaves the frames that the image had. After a refusal, but for `Device`, nothing was written.
         ensures any_moment { D.tells → LeavesOnly D.call_number D.images D.images_since disk.old disk.new (KeepsFrames file) }
+        ensures untouched { IfErr result (λ e. e ≢ LogFault.Device → D.tells → (D.reads disk.new ≡ D.reads disk.old) × LeavesOnly D.call_number D.images D.images_since disk.old disk.new Same) }
         ensures others { D.tells → (log : Log) (frames : List (List Record)) → file_of log ≢ file
             → IsOpen (D.reads disk.old) (D.images disk.old) log frames → IsOpen (D.reads disk.new) (D.images disk.new) log frames }
 
@@ -151,6 +153,7 @@ impl Log {
         ensures sound { OnOk result (is_broken self.new ≡ false) }
         ensures breaks { IfErr result (λ e. (is_broken self.new ≡ true) ↔ ((e ≡ LogFault.Broken) ⊎ (e ≡ LogFault.Device))) }
         ensures refused { IfErr result (λ e. e ≢ LogFault.Device → (self.new ≡ self.old) × (disk.new ≡ disk.old)) }
+        ensures extent { OnErr result (KeepsExtent self.old self.new) }
         ensures later { D.fault_count disk.old ≤ D.fault_count disk.new }
         ensures name { D.name disk.new ≡ D.name disk.old }
     {
@@ -200,6 +203,7 @@ impl Log {
         ensures sound { OnOk result (is_broken self.new ≡ false) }
         ensures breaks { IfErr result (λ e. (is_broken self.new ≡ true) ↔ ((e ≡ LogFault.Broken) ⊎ (e ≡ LogFault.Device))) }
         ensures refused { IfErr result (λ e. e ≢ LogFault.Device → (self.new ≡ self.old) × (disk.new ≡ disk.old)) }
+        ensures extent { OnErr result (KeepsExtent self.old self.new) }
         ensures later { D.fault_count disk.old ≤ D.fault_count disk.new }
         ensures name { D.name disk.new ≡ D.name disk.old }
     {
@@ -238,6 +242,7 @@ impl Log {
 
         ensures breaks { IfErr result (λ e. (is_broken self.new ≡ true) ↔ ((e ≡ LogFault.Broken) ⊎ (e ≡ LogFault.Device))) }
         ensures kept { IfErr result (λ e. e ≢ LogFault.Device → self.new ≡ self.old) }
+        ensures extent { OnErr result (KeepsExtent self.old self.new) }
         ensures file { file_of self.new ≡ file_of self.old }
         ensures later { D.fault_count disk.old ≤ D.fault_count disk.new }
         ensures name { D.name disk.new ≡ D.name disk.old }

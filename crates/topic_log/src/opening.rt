@@ -1,11 +1,11 @@
 // A log's file as it is found: how far its frames reach, and what stands behind them cut off.
-ghost use Rattle.std.specs.Prelude.{◌≡◌, ◌+◌, ◌^◌, ◌<◌, ◌≤◌, ℕ, false, length, IfOk, IfErr, OnOk, OnErr};
+ghost use Rattle.std.specs.Prelude.{◌≡◌, ◌+◌, ◌^◌, ◌<◌, ◌≤◌, ℕ, true, false, length, IfOk, IfErr, OnOk, OnErr};
 ghost use Rattle.samza_model.specs.Counters.{Rose};
 ghost use Rattle.disk_model.specs.Images.{Only};
 ghost use Rattle.topic_log.specs.Damage.{IsDamagedAt};
 ghost use Rattle.topic_log.specs.Faults.{IsWalkFault};
 ghost use Rattle.topic_log.specs.Moves.{Moves, Rests, Same};
-ghost use Rattle.topic_log.specs.Walks.{Reaches, Finds, IsGate, Settled, Repairs};
+ghost use Rattle.topic_log.specs.Walks.{Reaches, Finds, IsGate, LacksGate, Settled, Repairs};
 
 use crate::LogFault;
 use crate::calls::{cut, read, size, sync, write};
@@ -96,6 +96,7 @@ fn lacks_gate<D: Disk>(disk: &mut D, file: u32, size: u64) -> Result<bool, LogFa
     requires short { size < 2 }
     requires size { D.tells → size ≡ length (D.reads disk.old file) }
     ensures gate { IfOk result (λ b. D.tells → b ≡ false → IsGate (D.reads disk.old file)) }
+    ensures lacks { IfOk result (λ b. D.tells → b ≡ true → LacksGate (D.reads disk.old file)) }
     ensures reads { D.tells → D.reads disk.new ≡ D.reads disk.old }
     ensures moves { D.tells → Moves D.reads D.call_number D.images D.images_since disk.old disk.new Same }
     ensures fault { IfErr result (λ e. e ≡ LogFault.Device) }

@@ -13,6 +13,9 @@ returns-in-Err-clause-any_moment g c = λ told.
     let disk = g.D.Disk in
     (still_keeps disk.reads disk.call_number disk.images disk.images_since c.args.disk.now c.look.new.disk c.args.file (c.look.ensures.moves told)).moment
 
+pub returns-in-Err-clause-untouched : goal.returns-in-Err-clause-untouched
+returns-in-Err-clause-untouched g c = λ other told. (c.look.ensures.reads told, (c.look.ensures.moves told).moment)
+
 pub returns-in-Err-clause-others : goal.returns-in-Err-clause-others
 returns-in-Err-clause-others g c = λ told.
     let disk = g.D.Disk in
@@ -36,6 +39,11 @@ returns-in-Ok-settle-clause-opened g c = λ told.
     opens c.args.file (disk.reads c.args.disk.now) (disk.reads c.settle.new.disk) (disk.images c.settle.new.disk) _ (c.in-Ok.ensures.finds told)
     (subst (λ (i : Image). Settled c.args.file c.in-Ok.found.extent.gate i (disk.reads c.settle.new.disk)) (c.look.ensures.reads told) (c.in-Ok-settle.ensures.settled told))
     (c.in-Ok-settle.ensures.durable told) refl
+
+pub returns-in-Ok-settle-clause-left : goal.returns-in-Ok-settle-clause-left
+returns-in-Ok-settle-clause-left g c = λ told.
+    let disk = g.D.Disk in
+    (subst (λ (i : Image). Settled c.args.file c.in-Ok.found.extent.gate i (disk.reads c.settle.new.disk)) (c.look.ensures.reads told) (c.in-Ok-settle.ensures.settled told)).left
 
 pub returns-in-Ok-settle-clause-elsewhere : goal.returns-in-Ok-settle-clause-elsewhere
 returns-in-Ok-settle-clause-elsewhere g c = λ told f other. (c.in-Ok-settle.ensures.settled told).elsewhere f other ∙ ap (λ (i : Image). i f) (c.look.ensures.reads told)
