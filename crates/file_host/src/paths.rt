@@ -42,7 +42,9 @@ pub(crate) fn path_in(alloc: Global, folder: &str, file: &str) -> Result<String,
 }
 
 /// The folder of a disk, with a slash behind it.
-pub(crate) fn disk_path(alloc: Global, folder: &str, name: &DiskName) -> Result<String, HostFault> {
+pub(crate) fn disk_path(alloc: Global, folder: &str, name: &DiskName) -> Result<String, HostFault>
+    ensures { IfOk result (λ p. string_bytes p ≡ disk_folder folder.now name.now) }
+{
     match name {
         DiskName::Task(task) => task_path(alloc, folder, *task),
         DiskName::Stream { system, stream } => stream_path(alloc, folder, system, stream),
