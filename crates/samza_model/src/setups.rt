@@ -12,6 +12,7 @@ pub enum OffsetDefault {
     Upcoming,
 }
 
+/// One input of a task.
 #[derive(Debug, Drop)]
 pub struct InputSetup {
     pub ssp: Ssp,
@@ -21,6 +22,7 @@ pub struct InputSetup {
     pub reset: bool,
 }
 
+/// One store of a task.
 #[derive(Debug, Drop)]
 pub struct StoreSetup {
     pub name: Bin,
@@ -42,6 +44,7 @@ pub struct Setup {
     pub concurrency: u32,
     /// The greatest distance of the next offset from the first one that isn't completed, at least 1.
     pub span: u32,
+    /// Whether a commit may come while messages are in flight.
     pub async_commit: bool,
     /// Intervals in milliseconds; none means never.
     pub window_ms: Option<u64>,

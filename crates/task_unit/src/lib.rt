@@ -14,6 +14,9 @@ mod units;
 mod writing;
 
 pub use faults::{CommitFault, OneFault};
-pub use laws::{open_one_opens_or_says_why, opens_or_says_why};
+pub use laws::{
+    open_one_opens_or_says_why, open_one_opens_with_one_cause, opens_or_says_why,
+    opens_with_one_cause,
+};
 pub use restore_trim::OpenFault;
 pub use units::{LaneState, Mark, OneUnit};
