@@ -188,13 +188,16 @@ const OTHER_NAMES: &[Scenario] = &[
     },
 ];
 
-/// The files that the example's run on two lines leaves, which are refused.
+/// The files that the example's run on two lines leaves, which are refused and stay.
 const KEPT: &[Step] = &[
     Step::Lines(0, TWO_LINES),
     Step::File(0, CHECKPOINT),
     Step::File(1, COUNTS),
     Step::File(16, TOTALS),
     Step::Refuses(6, b"shape: Partition 0\n"),
+    Step::Has(0, CHECKPOINT),
+    Step::Has(1, COUNTS),
+    Step::Has(16, TOTALS),
 ];
 
 #[test]

@@ -457,19 +457,23 @@ fn a_crash_in_the_gate_of_what_is_taken_back_leaves_the_store(rt: HostRuntime) -
     Ok(())
 }
 
-/// What a crash in the checkpoint's gate leaves, and how many records the changelog has once the next run ended well. None
-/// where a run goes astray.
-fn crash_in_the_last_gate(alloc: Global, pick: Pick) -> Result<Option<(Left, u64)>, Fail> {
+/// The gate behind the first checkpoint that a crash in writing it leaves, what that is, and how many records the changelog
+/// has once the next run ended well. None where a run goes astray.
+fn crash_in_the_last_gate(
+    alloc: Global,
+    pick: Pick,
+) -> Result<Option<(Option<u8>, Left, u64)>, Fail> {
     let mut host = begin(alloc, Start::Second)?;
     if !is_stopped(alloc, &mut host, OPENING + 10, pick)? {
         return Ok(None);
     }
+    let gate = host.file(&TASK, CHECKPOINTS).get(82).copied();
     let left = what_is_left(alloc, &mut host)?;
     if !goes_on(alloc, &mut host, left)? {
         return Ok(None);
     }
     let (_, count) = whole_changelog(alloc, &mut host, SECOND_STORE)?;
-    Ok(Some((left, count)))
+    Ok(Some((gate, left, count)))
 }
 
 #[test]
@@ -477,11 +481,11 @@ fn a_crash_in_the_checkpoints_gate_leaves_one_of_two(rt: HostRuntime) -> Result<
     let alloc = rt.alloc();
     assert_eq!(rt;
         crash_in_the_last_gate(alloc, Pick::Fill(0x43))?,
-        Some((Left::First, 8))
+        Some((Some(0x43), Left::First, 8))
     );
     assert_eq!(rt;
         crash_in_the_last_gate(alloc, Pick::Fill(0x4F))?,
-        Some((Left::Second, 4))
+        Some((Some(0x4F), Left::Second, 4))
     );
     Ok(())
 }

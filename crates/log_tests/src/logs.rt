@@ -7,7 +7,7 @@ ghost use Rattle.samza_model.specs.Limits.{IsFrameable, IsWithinLimits};
 ghost use Rattle.topic_log.specs.Batches.{HasPlace};
 ghost use Rattle.topic_log.specs.Opened.{is_broken, IsOpen};
 
-use crate::records::{records, removal, set};
+use crate::records::{Row, record, records, removal, set};
 use checkpoint_log::last;
 use disk_model::{Disk, DiskName, Host, MemDisk, MemHost};
 use log_frame::{Frame, frames_of};
@@ -87,9 +87,13 @@ fn a_file_that_is_no_log_is_damaged_where_reading_stops(rt: HostRuntime) -> Resu
     Ok(())
 }
 
-/// The offset of a record of b without a value behind the log of these bytes, and the bytes that are left.
-fn produced(alloc: Global, bytes: &[u8]) -> Result<(Result<u64, LogFault>, Vec<u8>), Fail> {
-    let body = removal(alloc, b"b")?;
+/// The offset of this record behind the log of these bytes, and the bytes that are left.
+fn produced(
+    alloc: Global,
+    bytes: &[u8],
+    row: Row,
+) -> Result<(Result<u64, LogFault>, Vec<u8>), Fail> {
+    let body = record(alloc, row)?;
     let mut disk = disk_of(alloc, bytes)?;
     let offset = produce_one(alloc, &mut disk, 0, &body);
     let left = Vec::from_slice(alloc, disk.bytes(0))?;
@@ -102,19 +106,16 @@ const PRODUCED: &[u8] =
 
 #[test]
 fn a_record_is_produced_behind_those_of_the_file(rt: HostRuntime) -> Result<(), Fail> {
-    let (offset, left) = produced(rt.alloc(), &[])?;
-    assert_eq!(rt; (offset, left.as_slice()), (Ok(0), FIRST_PRODUCED));
-    let (offset, left) = produced(rt.alloc(), &counted(1))?;
+    let (offset, left) = produced(rt.alloc(), &[], (b"a", Some(b"1")))?;
+    assert_eq!(rt; (offset, left.as_slice()), (Ok(0), counted(1).as_slice()));
+    let (offset, left) = produced(rt.alloc(), &counted(1), (b"b", None))?;
     assert_eq!(rt; (offset, left.as_slice()), (Ok(1), PRODUCED));
     Ok(())
 }
 
-const FIRST_PRODUCED: &[u8] =
-    b"O\x00\x00\x00\x09\x00\x00\x00\x01\x00\x00\x00\x01b\xff\xff\xff\xffC";
-
 #[test]
 fn no_record_is_produced_behind_a_file_that_is_no_log(rt: HostRuntime) -> Result<(), Fail> {
-    let (offset, left) = produced(rt.alloc(), &counted(2))?;
+    let (offset, left) = produced(rt.alloc(), &counted(2), (b"b", None))?;
     assert_eq!(rt; offset, Err(LogFault::Damaged { at: 19 }));
     assert_eq!(rt; left.as_slice(), counted(2).as_slice());
     Ok(())

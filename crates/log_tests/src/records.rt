@@ -37,17 +37,23 @@ pub(crate) fn list<T: Drop>(alloc: Global, item: T) -> Result<Items<T>, NoMemory
 /// A key, and its value or none.
 pub(crate) type Row = (&'static [u8; 1], Option<&'static [u8; 1]>);
 
-/// Records of these keys and values; one without a value takes its key away.
+/// The record of a key and its value, or of none, which takes the key away.
+pub(crate) fn record(alloc: Global, row: Row) -> Result<Record, NoMemory>
+    ensures { IfOk result IsWithinLimits }
+{
+    match row {
+        (key, Some(value)) => set(alloc, key, value),
+        (key, None) => removal(alloc, key),
+    }
+}
+
+/// The records of these keys and values.
 pub(crate) fn records(alloc: Global, rows: &[Row]) -> Result<Vec<Record>, NoMemory>
     ensures { IfOk result (λ r. AllByRecursion IsWithinLimits r.items) }
 {
     let mut records = Vec::new(alloc);
-    for (key, value) in rows {
-        let record = match value {
-            Some(value) => set(alloc, key, value)?,
-            None => removal(alloc, key)?,
-        };
-        records.push(record)?;
+    for row in rows {
+        records.push(record(alloc, *row)?)?;
     }
     Ok(records)
 }
