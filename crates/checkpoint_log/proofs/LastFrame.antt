@@ -1,5 +1,5 @@
 -- The last frame of a log.
-use Rattle.std.proofs.Common.{ℕ, ◌≡◌, ◌+◌, ◌<◌, ◌^◌, List, [], ◌∷◌, ◌++◌, length, drop, Some, None, refl, sym, ◌∙◌, ap, arith, append_assoc, length-append}
+use Rattle.std.proofs.Common.{ℕ, ◌≡◌, ◌+◌, ◌<◌, ◌^◌, inl, inr, List, [], ◌∷◌, ◌++◌, length, drop, Some, None, refl, sym, ◌∙◌, ap, arith, append_assoc, length-append}
 use Rattle.std.proofs.lemmas.List.{drop_at}
 use Rattle.samza_model.specs.declared.messages.Record.{Record}
 use Rattle.samza_model.specs.declared.checkpoints.Checkpoint.{Checkpoint}
@@ -9,10 +9,10 @@ use Rattle.samza_model.specs.Restored.{EndsWith}
 use Rattle.topic_log.specs.declared.extents.Place.{Place}
 use Rattle.topic_log.specs.declared.logs.Log.{Log}
 use Rattle.topic_log.specs.Batches.{HasPlace, IsNext}
-use Rattle.topic_log.specs.Extents.{IsLast}
+use Rattle.topic_log.specs.Extents.{IsLast, IsPlace}
 use Rattle.topic_log.specs.Opened.{IsOpen, count_of}
 use Rattle.topic_log.proofs.Spelling.{spelled-append}
-use Rattle.checkpoint_log.specs.Ends.{IsAlone, IsBadEnd}
+use Rattle.checkpoint_log.specs.Ends.{IsAlone, IsEnd, IsBadEnd}
 
 -- two lists that begin with the same one
 same_back : {X : Type 0} (front xs ys : List X) → front ++ xs ≡ front ++ ys → xs ≡ ys
@@ -26,10 +26,7 @@ same_last xs ys x y e =
     cc
 
 module _ (reads : Image) (images : Image → Type 0) (log : Log) (frames : List (List Record)) (h : IsOpen reads images log frames) (place : Place) (is : IsLast frames place) where
-  pub has_place : HasPlace reads images log place frames is.before
-  has_place = record { opened = h; stands = record { behind = is.batch ∷ []; front = is.front; byte = is.byte; index = is.index } }
-
-  pub some_next : IsNext frames is.before None → ⊥
+  some_next : IsNext frames is.before None → ⊥
   some_next none = absurd (omega (arith, ap length none, ap length is.front, length-append is.before (is.batch ∷ [])))
 
   pub byte_small : place.byte + 1 < 2 ^ 62 + 1
@@ -64,6 +61,28 @@ module _ (reads : Image) (images : Image → Type 0) (log : Log) (frames : List 
       id = e.id ∙ sym h.extent.count;
     });
   }
+
+-- the frames before the end
+abbrev pub before_of : (frames : List (List Record)) (place : Place) → IsEnd frames place → List (List Record)
+before_of frames place (inl is) = is.before
+before_of frames place (inr none) = []
+
+before_end : (frames : List (List Record)) (place : Place) (end : IsEnd frames place) → IsPlace frames (before_of frames place end) place
+before_end frames place (inl is) = record { behind = is.batch ∷ []; front = is.front; byte = is.byte; index = is.index }
+before_end frames place (inr none) = none.1
+
+pub has_place : (reads : Image) (images : Image → Type 0) (log : Log) (frames : List (List Record)) → IsOpen reads images log frames → (place : Place) (end : IsEnd frames place) → HasPlace reads images log place frames (before_of frames place end)
+has_place reads images log frames h place end = record { opened = h; stands = before_end frames place end }
+
+-- where nothing stands at the end there is no frame
+pub none_at_end : (reads : Image) (images : Image → Type 0) (log : Log) (frames : List (List Record)) → IsOpen reads images log frames → (place : Place) (end : IsEnd frames place) → IsNext frames (before_of frames place end) None → frames ≡ []
+none_at_end reads images log frames h place (inl is) next = absurd (some_next reads images log frames h place is next)
+none_at_end reads images log frames h place (inr none) next = none.0
+
+-- what stands at the end is the last frame
+pub last_at_end : (frames : List (List Record)) (place : Place) (end : IsEnd frames place) (records : List Record) (next : Place) → IsNext frames (before_of frames place end) (Some (records, next)) → (is : IsLast frames place) × IsNext frames is.before (Some (records, next))
+last_at_end frames place (inl is) records next n = (is, n)
+last_at_end frames place (inr none) records next n = absurd (omega (arith, ap length none.0, ap length n.front, length-append (records ∷ []) n.behind))
 
 -- the same records and the same number
 pub alone_is : (shown records : List Record) (n count : ℕ) (k : Checkpoint) → shown ≡ records → n ≡ count → IsAlone shown n k → IsAlone records count k

@@ -1,10 +1,16 @@
 -- How the frames of a checkpoint file end.
-use Rattle.std.specs.Prelude.{ℕ, ◌≡◌, ◌+◌, List, [], ◌∷◌, ◌++◌, length, Option, Some, None}
+use Rattle.std.specs.Prelude.{ℕ, ◌≡◌, ◌+◌, ◌⊎◌, List, [], ◌∷◌, ◌++◌, length, Option, Some, None}
 use Rattle.samza_model.specs.declared.messages.Record.{Record}
 use Rattle.samza_model.specs.declared.checkpoints.Checkpoint.{Checkpoint}
 use Rattle.samza_model.specs.Checkpoint.{Spells}
 use Rattle.samza_model.specs.Logs.{spelled}
 use Rattle.samza_model.specs.Restored.{EndsWith}
+use Rattle.topic_log.specs.declared.extents.Place.{Place}
+use Rattle.topic_log.specs.Extents.{IsPlace, IsLast}
+
+-- the place before the last frame, or before the first where there is none
+abbrev pub IsEnd : List (List Record) → Place → Type 0
+IsEnd frames place = IsLast frames place ⊎ ((frames ≡ []) × IsPlace frames [] place)
 
 -- the frames end with this checkpoint, or there are none
 abbrev pub EndsAs : List (List Record) → Option Checkpoint → Type 0

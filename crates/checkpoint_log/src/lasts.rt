@@ -1,19 +1,19 @@
 // The checkpoint with which a log ends.
-ghost use Rattle.std.specs.Prelude.{◌≡◌, ◌≢◌, ◌≤◌, ◌∷◌, [], ℕ, false, List, IfOk, IfErr, OnOk};
+ghost use Rattle.std.specs.Prelude.{◌≡◌, ◌≢◌, ◌≤◌, ◌⊎◌, ◌↔◌, ◌∷◌, [], ℕ, true, false, List, IfOk, IfErr, OnOk};
 ghost use Rattle.samza_model.specs.declared.messages.Record.{Record as RecordValue};
 ghost use Rattle.samza_model.specs.declared.checkpoints.Checkpoint.{Checkpoint as CheckpointValue};
 ghost use Rattle.samza_model.specs.Checkpoint.{Spells};
 ghost use Rattle.samza_model.specs.Counters.{Rose};
 ghost use Rattle.topic_log.specs.declared.logs.Log.{Log as LogValue};
 ghost use Rattle.topic_log.specs.Moves.{Rests};
-ghost use Rattle.topic_log.specs.Opened.{file_of, is_broken, IsOpen};
-ghost use Rattle.checkpoint_log.specs.Ends.{IsAlone, EndsAs, IsBadEnd};
+ghost use Rattle.topic_log.specs.Opened.{file_of, is_broken, HasExtent, IsOpen};
+ghost use Rattle.checkpoint_log.specs.Ends.{IsAlone, IsEnd, EndsAs, IsBadEnd};
 
 use crate::{CheckpointFault, decode_checkpoint};
 use disk_model::Disk;
 use samza_model::{Checkpoint, Record};
 use std::alloc::Global;
-use topic_log::{Log, LogFault};
+use topic_log::{Log, LogFault, Place};
 
 /// The checkpoint of a frame that has its record alone, and whose number is `count`.
 fn checkpoint_in(
@@ -38,22 +38,34 @@ fn checkpoint_in(
     }
 }
 
-/// The checkpoint of the log's last frame, or `None` where the log has no frame. The log is not broken.
+/// The place before the log's last frame, or before the first where it has none.
+fn end_of(log: &Log) -> Place
+    ensures { (frames : List (List RecordValue)) → HasExtent log.now frames → IsEnd frames result }
+{
+    match log.last() {
+        Some(place) => place,
+        None => log.start(),
+    }
+}
+
+/// The checkpoint of the log's last frame, or `None` where the log has no frame.
 ///
-/// `Damaged` comes where the last frame is not the record of one checkpoint alone, whose number is the log's number of
-/// records; it names the frame's first byte.
+/// `Broken` comes exactly where an earlier call on the log answered `Device`, before any other answer. `Damaged` comes
+/// where the last frame is not the record of one checkpoint alone, whose number is the log's number of records; it names
+/// the frame's first byte. After `Device` the log is broken.
 pub fn last<D: Disk>(
     alloc: Global,
     log: &mut Log,
     disk: &mut D,
 ) -> Result<Option<Checkpoint>, LogFault>
-    requires opened { D.tells → (frames : List (List RecordValue)) × IsOpen (D.reads disk.old) (D.images disk.old) log.old frames }
-    requires sound { is_broken log.old ≡ false }
+    requires opened { D.tells → is_broken log.old ≡ false → (frames : List (List RecordValue)) × IsOpen (D.reads disk.old) (D.images disk.old) log.old frames }
 
     ensures last { IfOk result (λ m. D.tells → (frames : List (List RecordValue)) → IsOpen (D.reads disk.old) (D.images disk.old) log.old frames → EndsAs frames m) }
     ensures damaged { IfErr result (λ e. (at : ℕ) → e ≡ LogFault.Damaged at → D.tells → (frames : List (List RecordValue)) → IsOpen (D.reads disk.old) (D.images disk.old) log.old frames → IsBadEnd frames at) }
 
-    ensures log { OnOk result (log.new ≡ log.old) }
+    ensures ok { OnOk result ((is_broken log.old ≡ false) × (log.new ≡ log.old)) }
+    ensures broken { IfErr result (λ e. (e ≡ LogFault.Broken) ↔ (is_broken log.old ≡ true)) }
+    ensures breaks { IfErr result (λ e. (is_broken log.new ≡ true) ↔ ((e ≡ LogFault.Broken) ⊎ (e ≡ LogFault.Device))) }
     ensures kept { IfErr result (λ e. e ≢ LogFault.Device → log.new ≡ log.old) }
     ensures file { file_of log.new ≡ file_of log.old }
     // Nothing but reads was called: at each moment the images are those before.
@@ -62,24 +74,20 @@ pub fn last<D: Disk>(
     ensures others { D.tells → (l : LogValue) (frames : List (List RecordValue)) → IsOpen (D.reads disk.old) (D.images disk.old) l frames → IsOpen (D.reads disk.new) (D.images disk.new) l frames }
 
     ensures never_limit { IfErr result (λ e. e ≢ LogFault.Limit) }
-    ensures never_broken { IfErr result (λ e. e ≢ LogFault.Broken) }
     ensures device { IfErr result (λ e. e ≡ LogFault.Device → Rose (D.fault_count disk.old) (D.fault_count disk.new)) }
     ensures later { D.fault_count disk.old ≤ D.fault_count disk.new }
     ensures name { D.name disk.new ≡ D.name disk.old }
 {
-    let place = match log.last() {
-        Some(place) => place,
-        None => return Ok(None),
-    };
+    let place = end_of(log);
     let found = match log.batch(alloc, disk, place) {
         Ok(found) => found,
         Err(fault) => return Err(fault),
     };
-    let at = place.byte.saturating_add(1);
     let (records, _) = match found {
         Some(batch) => batch,
-        None => return Err(LogFault::Damaged { at }),
+        None => return Ok(None),
     };
+    let at = place.byte.saturating_add(1);
     match checkpoint_in(alloc, records.as_slice(), log.len()) {
         Ok(k) => Ok(Some(k)),
         Err(CheckpointFault::Bad) => Err(LogFault::Damaged { at }),

@@ -272,7 +272,7 @@ fn batches_are_read_one_behind_the_other(rt: HostRuntime) -> Result<(), Fail> {
     Ok(())
 }
 
-/// Whether an append and a read answer `Broken`.
+/// Whether an append, a read and the search for the last checkpoint answer `Broken`.
 fn answers_broken<D: Disk>(alloc: Global, log: &mut Log, disk: &mut D, frames: &[Frame]) -> bool
     requires { is_broken log.old ≡ true }
 {
@@ -280,7 +280,10 @@ fn answers_broken<D: Disk>(alloc: Global, log: &mut Log, disk: &mut D, frames: &
     let Err(LogFault::Broken) = log.append_all(disk, frames) else {
         return false;
     };
-    matches!(log.batch(alloc, disk, start), Err(LogFault::Broken))
+    let Err(LogFault::Broken) = log.batch(alloc, disk, start) else {
+        return false;
+    };
+    matches!(last(alloc, log, disk), Err(LogFault::Broken))
 }
 
 /// Whether an append answers `Device`, and each call behind it `Broken`.

@@ -13,7 +13,7 @@ returns-in-Ok-true-clause-mark g c = λ told.
     let named = c.named.ensures.named (c.in-Ok-true.is ∙ ap (λ b. Ok b) c.in-Ok-true.field-0-test) in
     let mark = has_mark c.args.setup.now s.frames c.in-Ok-last.mark (c.in-Ok-last.ensures.last told s.frames s.is_open.is_open) named in
     let still : IsOpenAt (disk.reads c.last.new.disk) (disk.images c.last.new.disk) checkpoint_file c.in-Ok.log s.frames = record { file_is = s.is_open.file_is; sound = s.is_open.sound; is_open = c.in-Ok-last.ensures.others told c.in-Ok.log s.frames s.is_open.is_open } in
-    subst (λ log. HoldsMark c.args.setup.now (disk.reads c.args.disk.now) (disk.reads c.last.new.disk) (disk.images c.last.new.disk) log c.in-Ok-last.mark) (sym c.in-Ok-last.ensures.log)
+    subst (λ log. HoldsMark c.args.setup.now (disk.reads c.args.disk.now) (disk.reads c.last.new.disk) (disk.images c.last.new.disk) log c.in-Ok-last.mark) (sym c.in-Ok-last.ensures.ok.1)
     (record { frames = s.frames; had = s.had; is_open = still; mark_is = mark })
 
 pub returns-in-Ok-false-clause-why : goal.returns-in-Ok-false-clause-why
