@@ -1,11 +1,11 @@
 #!/usr/bin/env python3
 """Makes and shows the files of a job's folder, from outside the program (docs/formats.md).
 
-  topicfile.py make FILE --words SEED COUNT     COUNT messages of four words each, as `gen` makes them
+  topicfile.py make FILE --words SEED COUNT     COUNT messages of four words each
   topicfile.py make FILE --lines                one message per line of standard input, with an empty key
   topicfile.py make FILE --pairs                one record per line: KEY TAB VALUE, or KEY alone for no value
   topicfile.py show FILE                        gate by gate: each record, and what stands behind the last gate
-  topicfile.py checkpoint FILE                  each checkpoint of a checkpoint file (formats 1 and 2)
+  topicfile.py checkpoint FILE                  each checkpoint of a checkpoint file
   topicfile.py state FOLDER TASK                a task's folder: its last checkpoint, and each file's number of records
 
 It reads and writes files only; `make` writes whole frames of at most 500 records and a closed gate.

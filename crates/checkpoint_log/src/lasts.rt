@@ -1,12 +1,12 @@
 // The checkpoint with which a log ends.
-ghost use Rattle.std.specs.Prelude.{◌≡◌, ◌≢◌, ◌≤◌, ◌⊎◌, ◌↔◌, ◌∷◌, [], ℕ, true, false, List, IfOk, IfErr, OnOk};
+ghost use Rattle.std.specs.Prelude.{◌≡◌, ◌≢◌, ◌≤◌, ◌⊎◌, ◌↔◌, ◌∷◌, [], ℕ, true, false, List, IfOk, IfErr, OnErr, OnOk};
 ghost use Rattle.samza_model.specs.declared.messages.Record.{Record as RecordValue};
 ghost use Rattle.samza_model.specs.declared.checkpoints.Checkpoint.{Checkpoint as CheckpointValue};
 ghost use Rattle.samza_model.specs.Checkpoint.{Spells};
 ghost use Rattle.samza_model.specs.Counters.{Rose};
 ghost use Rattle.topic_log.specs.declared.logs.Log.{Log as LogValue};
 ghost use Rattle.topic_log.specs.Moves.{Rests};
-ghost use Rattle.topic_log.specs.Opened.{file_of, is_broken, HasExtent, IsOpen};
+ghost use Rattle.topic_log.specs.Opened.{file_of, is_broken, HasExtent, KeepsExtent, IsOpen};
 ghost use Rattle.checkpoint_log.specs.Ends.{IsAlone, IsEnd, EndsAs, IsBadEnd};
 
 use crate::{CheckpointFault, decode_checkpoint};
@@ -67,6 +67,7 @@ pub fn last<D: Disk>(
     ensures broken { IfErr result (λ e. (e ≡ LogFault.Broken) ↔ (is_broken log.old ≡ true)) }
     ensures breaks { IfErr result (λ e. (is_broken log.new ≡ true) ↔ ((e ≡ LogFault.Broken) ⊎ (e ≡ LogFault.Device))) }
     ensures kept { IfErr result (λ e. e ≢ LogFault.Device → log.new ≡ log.old) }
+    ensures extent { OnErr result (KeepsExtent log.old log.new) }
     ensures file { file_of log.new ≡ file_of log.old }
     // Nothing but reads was called: at each moment the images are those before.
     ensures rests { D.tells → Rests D.reads D.call_number D.images D.images_since disk.old disk.new }
