@@ -9,4 +9,5 @@ mod Places
 mod SoFar
 pub mod Tails
 mod Taking
+mod Telling
 mod Whole

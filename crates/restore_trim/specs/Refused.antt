@@ -34,6 +34,36 @@ WhyNoFile image file (Damaged None f at) = (f ≡ file) × IsNoLogAt (image file
 WhyNoFile image file NoMemory = Unit {0}
 WhyNoFile image file e = ⊥
 
+-- What a refusal tells, on every disk: of a file that isn't opened just this file,
+abbrev pub TellsFile : ℕ → OpenFault → Type 0
+TellsFile file (Damaged input f at) = (input ≡ None) × (f ≡ file)
+TellsFile file Shape = ⊥
+TellsFile file (Ahead input store wanted held) = ⊥
+TellsFile file e = Unit {0}
+
+-- of the checkpoints their file, or that their names are others,
+abbrev pub TellsMark : OpenFault → Type 0
+TellsMark (Damaged input f at) = (input ≡ None) × (f ≡ checkpoint_file)
+TellsMark (Ahead input store wanted held) = ⊥
+TellsMark e = Unit {0}
+
+-- of a store its changelog's file, or that it holds less than is wanted,
+abbrev pub TellsStore : ℕ → OpenFault → Type 0
+TellsStore store (Damaged input f at) = (input ≡ None) × (f ≡ changelog_file store)
+TellsStore store Shape = ⊥
+TellsStore store (Ahead input s wanted held) = (input ≡ None) × (s ≡ Some store) × (held < wanted)
+TellsStore store e = Unit {0}
+
+-- and of a task one of these: the checkpoints, one of its stores, or the file of one of its outputs.
+abbrev pub TellsStores : ℕ → OpenFault → Type 0
+TellsStores stores e = (i : ℕ) × (i < stores) × TellsStore i e
+
+abbrev pub TellsOutputs : ℕ → OpenFault → Type 0
+TellsOutputs outputs e = (j : ℕ) × (j < outputs) × TellsFile (output_file j) e
+
+abbrev pub TellsFiles : ℕ → ℕ → OpenFault → Type 0
+TellsFiles stores outputs e = TellsMark e ⊎ (TellsStores stores e ⊎ TellsOutputs outputs e)
+
 -- the checkpoint file has frames, and they end with no checkpoint; the last one's first byte is at
 pub record EndsBadly (image : Image) (at : ℕ) : Type 0 where
   pub frames : List (List Record)

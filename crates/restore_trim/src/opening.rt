@@ -9,7 +9,7 @@ ghost use Rattle.disk_model.specs.Images.{SameElsewhere, LeavesOnly};
 ghost use Rattle.topic_log.specs.declared.logs.Log.{Log as LogValue};
 ghost use Rattle.topic_log.specs.Opened.{file_of, is_broken, IsOpen};
 ghost use Rattle.restore_trim.specs.Crashes.{TailsGrow};
-ghost use Rattle.restore_trim.specs.Refused.{IsOpeningOf, WhyNoFile, WhyNoMark};
+ghost use Rattle.restore_trim.specs.Refused.{IsOpeningOf, TellsFile, TellsMark, WhyNoFile, WhyNoMark};
 ghost use Rattle.restore_trim.specs.Standing.{StandsAt, HoldsMark};
 
 use crate::OpenFault;
@@ -45,6 +45,7 @@ pub(crate) fn open_file<D: Disk>(alloc: Global, disk: &mut D, file: u32) -> Resu
     ensures elsewhere { OnOk result (D.tells → SameElsewhere file (D.reads disk.old) (D.reads disk.new)) }
     ensures others { D.tells → (log : LogValue) (frames : List (List Record)) → file_of log ≢ file → IsOpen (D.reads disk.old) (D.images disk.old) log frames → IsOpen (D.reads disk.new) (D.images disk.new) log frames }
     ensures why { IfErr result (λ e. D.tells → WhyNoFile (D.reads disk.old) file e) }
+    ensures told { IfErr result (TellsFile file) }
     // A crash at any moment leaves each file the frames that it had, or, of a changelog, with more behind them.
     ensures any_moment { D.tells → LeavesOnly D.call_number D.images D.images_since disk.old disk.new TailsGrow }
     ensures device { IfErr result (λ e. e ≡ OpenFault.Device → Rose (D.fault_count disk.old) (D.fault_count disk.new)) }
@@ -79,6 +80,7 @@ pub(crate) fn open_marks<D: Disk>(
     ensures sound { IfOk result (λ r. is_broken r.0 ≡ false) }
     ensures named { IfOk result (λ r. (k : CheckpointValue) → r.1 ≡ Some k → IsNamed setup.now k) }
     ensures why { IfErr result (λ e. D.tells → WhyNoMark setup.now (D.reads disk.old) e) }
+    ensures told { IfErr result TellsMark }
     ensures any_moment { D.tells → LeavesOnly D.call_number D.images D.images_since disk.old disk.new TailsGrow }
     ensures device { IfErr result (λ e. e ≡ OpenFault.Device → Rose (D.fault_count disk.old) (D.fault_count disk.new)) }
     ensures later { D.fault_count disk.old ≤ D.fault_count disk.new }

@@ -10,7 +10,7 @@ ghost use Rattle.kv_store.specs.Tracked.{AreWithinLimits};
 ghost use Rattle.topic_log.specs.declared.logs.Log.{Log as LogValue};
 ghost use Rattle.topic_log.specs.Opened.{file_of, is_broken, IsOpen};
 ghost use Rattle.restore_trim.specs.Crashes.{OpeningLeaves, TailsGrow};
-ghost use Rattle.restore_trim.specs.Refused.{FilesHold, StoresOpen, WhyNoStores, WhyNoOutputs, WhyRefused};
+ghost use Rattle.restore_trim.specs.Refused.{FilesHold, StoresOpen, TellsFiles, TellsOutputs, TellsStores, WhyNoStores, WhyNoOutputs, WhyRefused};
 ghost use Rattle.restore_trim.specs.Standing.{AllSound, HoldsStores, HoldsOutputs, IsRestored, OthersStay, SameFrom, SameOutside};
 
 use crate::OpenFault;
@@ -68,6 +68,7 @@ fn open_stores<D: Disk>(
     ensures sound { IfOk result (λ r. AllSound r.0.items) }
     ensures others { OnOk result (D.tells → (log : LogValue) (frames : List (List Record)) → file_of log ≡ checkpoint_file → IsOpen (D.reads disk.old) (D.images disk.old) log frames → IsOpen (D.reads disk.new) (D.images disk.new) log frames) }
     ensures why { IfErr result (λ e. D.tells → WhyNoStores (D.reads disk.old) mark.now stores e) }
+    ensures told { IfErr result (TellsStores stores) }
     ensures any_moment { D.tells → LeavesOnly D.call_number D.images D.images_since disk.old disk.new TailsGrow }
     ensures device { IfErr result (λ e. e ≡ OpenFault.Device → Rose (D.fault_count disk.old) (D.fault_count disk.new)) }
     ensures later { D.fault_count disk.old ≤ D.fault_count disk.new }
@@ -101,6 +102,7 @@ fn open_outputs<D: Disk>(alloc: Global, disk: &mut D, outputs: u32) -> Result<Ve
     ensures elsewhere { OnOk result (D.tells → SameOutside (output_file 0) outputs (D.reads disk.old) (D.reads disk.new)) }
     ensures others { OnOk result (D.tells → (log : LogValue) (frames : List (List Record)) → file_of log < output_file 0 → IsOpen (D.reads disk.old) (D.images disk.old) log frames → IsOpen (D.reads disk.new) (D.images disk.new) log frames) }
     ensures why { IfErr result (λ e. D.tells → WhyNoOutputs (D.reads disk.old) outputs e) }
+    ensures told { IfErr result (TellsOutputs outputs) }
     ensures any_moment { D.tells → LeavesOnly D.call_number D.images D.images_since disk.old disk.new TailsGrow }
     ensures device { IfErr result (λ e. e ≡ OpenFault.Device → Rose (D.fault_count disk.old) (D.fault_count disk.new)) }
     ensures later { D.fault_count disk.old ≤ D.fault_count disk.new }
@@ -143,6 +145,8 @@ pub fn restore<D: Disk>(alloc: Global, disk: &mut D, setup: &Setup) -> Result<Re
     ensures sound { IfOk result (λ r. (is_broken r.marks ≡ false) × AllSound r.changelogs × AllSound r.outputs) }
 
     ensures why { IfErr result (λ e. D.tells → WhyRefused setup.now (D.reads disk.old) e) }
+    // On every disk a refusal tells a file that the task has, or a store of which more is counted than it holds.
+    ensures told { IfErr result (TellsFiles (length setup.now.stores) (length setup.now.outputs)) }
     // A crash at any moment leaves files that restore as before.
     ensures any_moment { D.tells → LeavesOnly D.call_number D.images D.images_since disk.old disk.new (OpeningLeaves setup.now) }
     // After Ok every image restores to what is handed back.

@@ -22,7 +22,7 @@ use Rattle.kv_store.specs.Tracked.{Tracked, AgreesOnClean}
 use Rattle.topic_log.specs.declared.logs.Log.{Log}
 use Rattle.restore_trim.specs.declared.faults.OpenFault.{OpenFault}
 use Rattle.restore_trim.specs.declared.faults.OpenFault.TheVariants.{Ahead}
-use Rattle.restore_trim.specs.Refused.{FilesHold, HasChanges, WhyRefused}
+use Rattle.restore_trim.specs.Refused.{FilesHold, HasChanges, TellsFiles, WhyRefused}
 use Rattle.restore_trim.specs.Standing.{IsOpenAt}
 use Rattle.changelog.specs.Folds.{reverts_of}
 use Rattle.log_frame.specs.Cuts.{IsCut}
@@ -31,7 +31,7 @@ use Rattle.task_unit.specs.declared.writing.Logs.{Logs}
 use Rattle.task_unit.specs.Acting.{held, undos_of, IsSized}
 use Rattle.task_unit.specs.Appending.{AreOpen}
 use Rattle.task_unit.specs.Held.{Held, tracked_at, unlogged_at}
-use Rattle.task_unit.specs.Inputs.{WhyNoInput}
+use Rattle.task_unit.specs.Inputs.{TellsInput, WhyNoInput}
 use Rattle.task_unit.specs.Touched.{acts_of, touched, keys_in, records_of}
 use Rattle.task_unit.specs.Written.{AreSound}
 
@@ -214,6 +214,10 @@ pub record IsPastEnd (tells told : Type 0) (s : Setup) (image : Image) (bytes : 
   pub honoured : (input_of s).reset ≡ false
   pub past : length records < next
   pub fault : e ≡ Ahead (Some 0) None next (length records)
+
+-- what a refusal tells, on every outside: one of the task's own files or stores, or its input
+abbrev pub TellsTask : Setup → OpenFault → Type 0
+TellsTask s e = TellsFiles (length s.stores) (length s.outputs) e ⊎ TellsInput (input_of s).ssp.partition e
 
 -- why a task isn't opened, the first cause in the order of work: its own files don't restore, its input isn't read, or the kept
 -- offset passes the input's end

@@ -15,8 +15,8 @@ ghost use Rattle.restore_trim.specs.Refused.{StoresOpen};
 ghost use Rattle.restore_trim.specs.Standing.{OthersStay};
 ghost use Rattle.task_unit.specs.Acting.{held, undos_of, IsSized};
 ghost use Rattle.task_unit.specs.Held.{AreClean, contents_of, state_of};
-ghost use Rattle.task_unit.specs.Inputs.{WhyNoInput};
-ghost use Rattle.task_unit.specs.Units.{IsSetUp, LogsStay, AreWhole, IsMessage, OnDisk, appended_at, input_of, WhyNotOpened};
+ghost use Rattle.task_unit.specs.Inputs.{TellsInput, WhyNoInput};
+ghost use Rattle.task_unit.specs.Units.{IsSetUp, LogsStay, AreWhole, IsMessage, OnDisk, appended_at, input_of, TellsTask, WhyNotOpened};
 ghost use Rattle.task_unit.specs.Written.{AreSound};
 
 use crate::OpenFault;
@@ -95,6 +95,7 @@ fn first_offset(kept: Option<u64>, input: &InputSetup, end: u64) -> Result<u64, 
     ensures start { IfOk result (λ n. (records : List RecordValue) → end ≡ length records → n ≡ start_of kept input.now (record { first = 0; records = records })) }
     ensures within { IfOk result (λ n. n ≤ end) }
     ensures never { IfErr result (λ e. e ≢ OpenFault.Device) }
+    ensures told { (partition : ℕ) → IfErr result (TellsInput partition) }
     ensures ahead { IfErr result (λ e. (next : ℕ) × (e ≡ OpenFault.Ahead (Some 0) None next end) × (kept ≡ Some next) × (input.now.reset ≡ false) × (end < next)) }
 {
     match kept {
@@ -158,6 +159,7 @@ fn read_input<S: Shelf>(
 ) -> Result<Vec<Record>, OpenFault>
     ensures log { IfOk result (λ records. S.tells → HasLog (S.bytes shelf.old) records.items) }
     ensures why { IfErr result (λ e. WhyNoInput S.tells (S.bytes shelf.old) partition e) }
+    ensures told { IfErr result (TellsInput partition) }
     ensures device { IfErr result (λ e. e ≡ OpenFault.Device → Rose (S.fault_count shelf.old) (S.fault_count shelf.new)) }
     ensures later { S.fault_count shelf.old ≤ S.fault_count shelf.new }
     ensures name { S.name shelf.new ≡ S.name shelf.old }
@@ -237,6 +239,7 @@ pub(crate) fn start<D: Disk, S: Shelf>(
     ensures sound { IfOk result (λ r. AreSound r.logs) }
     ensures none_appended { IfOk result (λ r. (j : ℕ) → j < length setup.now.outputs → appended_at (held r.holdings).cleared j ≡ 0) }
     ensures why { IfErr result (λ e. WhyNotOpened D.tells S.tells setup.now (D.reads disk.old) (S.bytes shelf.old) e) }
+    ensures told { IfErr result (TellsTask setup.now) }
     ensures durable { IfOk result (λ r. D.tells → (c : Image) → D.images disk.new c → Restores setup.now c r.mark (state_of (held r.holdings)).stores) }
     ensures any_moment { D.tells → LeavesOnly D.call_number D.images D.images_since disk.old disk.new (OpeningLeaves setup.now) }
     ensures device { IfErr result (λ e. e ≡ OpenFault.Device → Rose (D.fault_count disk.old) (D.fault_count disk.new) ⊎ Rose (S.fault_count shelf.old) (S.fault_count shelf.new)) }

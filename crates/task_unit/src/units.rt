@@ -13,7 +13,7 @@ ghost use Rattle.restore_trim.specs.Crashes.{OpeningLeaves};
 ghost use Rattle.restore_trim.specs.Refused.{StoresOpen};
 ghost use Rattle.restore_trim.specs.Standing.{OthersStay};
 ghost use Rattle.task_unit.specs.Growth.{PassesLimit};
-ghost use Rattle.task_unit.specs.Units.{IsSetUp, LogsStay, IsCommitted, CommitLeaves, Counts, appended_at, IsProcessed, IsFailed, NothingUnsent, NothingUnlogged, AreWhole, input_of, WhyNotOpened};
+ghost use Rattle.task_unit.specs.Units.{IsSetUp, LogsStay, IsCommitted, CommitLeaves, Counts, appended_at, IsProcessed, IsFailed, NothingUnsent, NothingUnlogged, AreWhole, input_of, TellsTask, WhyNotOpened};
 
 use crate::acting::Holdings;
 use crate::beginning::{envelope_at, start};
@@ -114,6 +114,8 @@ impl<'j, J: Job, D: Disk, S: Shelf> OneUnit<'j, J, D, S> {
         ensures back_disk { IfErr result (λ e. (D.name e.1 ≡ D.name disk) × (D.fault_count disk ≤ D.fault_count e.1)) }
         ensures back_shelf { IfErr result (λ e. (S.name e.2 ≡ S.name shelf) × (S.file e.2 ≡ S.file shelf) × (S.fault_count shelf ≤ S.fault_count e.2)) }
         ensures why { IfErr result (λ e. WhyNotOpened D.tells S.tells setup (D.reads disk) (S.bytes shelf) e.0) }
+        // On every outside a refusal tells a file that the task has, a store of which more is counted than it holds, or the input.
+        ensures told { IfErr result (λ e. TellsTask setup e.0) }
         ensures device { IfErr result (λ e. e.0 ≡ OpenFault.Device → Rose (D.fault_count disk) (D.fault_count e.1) ⊎ Rose (S.fault_count shelf) (S.fault_count e.2)) }
     {
         let mut disk = disk;

@@ -4,6 +4,7 @@ use Rattle.samza_model.specs.Files.{checkpoint_file}
 use Rattle.restore_trim.specs.Standing.{IsOpenAt, HoldsMark}
 use Rattle.restore_trim.proofs.Openings.{has_mark}
 use Rattle.restore_trim.proofs.Tails.{grows_read, grows_then}
+use Rattle.restore_trim.proofs.Telling.{opening_tells, tells_mark}
 use Rattle.restore_trim.proofs.opening.open_marks.Goals as goal
 
 pub returns-in-Ok-true-clause-mark : goal.returns-in-Ok-true-clause-mark
@@ -66,3 +67,9 @@ returns-in-Err-named-clause-any_moment g c = λ told.
     let d1 = c.open_file.new.disk in
     grows_then disk.reads disk.call_number disk.images disk.images_since d0 d1 c.last.new.disk (λ k f le left. law.counts_now d1 k f told le left) (c.open_file.ensures.any_moment told)
     (grows_read disk.reads disk.call_number disk.images disk.images_since d1 c.last.new.disk (c.last.ensures.rests told))
+
+pub returns-in-Err-clause-told : goal.returns-in-Err-clause-told
+returns-in-Err-clause-told g c = tells_mark c.in-Err.fault c.in-Err.ensures.told
+
+pub returns-in-Err-last-clause-told : goal.returns-in-Err-last-clause-told
+returns-in-Err-last-clause-told g c = tells_mark c.opening.result (opening_tells 0 c.in-Err-last.fault c.opening.result c.opening.ensures)

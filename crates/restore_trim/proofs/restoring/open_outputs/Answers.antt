@@ -51,3 +51,9 @@ returns-in-Err-put-clause-any_moment g c = λ told.
 pub returns-clause-any_moment : goal.returns-clause-any_moment
 returns-clause-any_moment g c = λ told.
     c.loop-j.invariant.3.moment told
+
+pub returns-in-Err-clause-told : goal.returns-in-Err-clause-told
+returns-in-Err-clause-told g c = (c.loop-j.j, c.loop-j-test.true, c.in-Err.ensures.told)
+
+pub returns-in-Err-put-clause-told : goal.returns-in-Err-put-clause-told
+returns-in-Err-put-clause-told g c = (c.loop-j.j, c.loop-j-test.true, tt)

@@ -80,3 +80,12 @@ returns-in-Err-put-2-clause-any_moment g c = λ told.
 pub returns-clause-any_moment : goal.returns-clause-any_moment
 returns-clause-any_moment g c = λ told.
     c.loop-i.invariant.5.moment told
+
+pub returns-in-Err-clause-told : goal.returns-in-Err-clause-told
+returns-in-Err-clause-told g c = (c.loop-i.i, c.loop-i-test.true, c.in-Err.ensures.told)
+
+pub returns-in-Err-put-clause-told : goal.returns-in-Err-put-clause-told
+returns-in-Err-put-clause-told g c = (c.loop-i.i, c.loop-i-test.true, tt)
+
+pub returns-in-Err-put-2-clause-told : goal.returns-in-Err-put-2-clause-told
+returns-in-Err-put-2-clause-told g c = (c.loop-i.i, c.loop-i-test.true, tt)

@@ -4,7 +4,7 @@ use Rattle.samza_model.specs.Content.{Content}
 use Rattle.samza_model.specs.Files.{changelog_file, output_file}
 use Rattle.kv_store.specs.Tracked.{AreWithinLimits}
 use Rattle.topic_log.specs.declared.logs.Log.{Log}
-use Rattle.restore_trim.specs.Refused.{StoresOpen, WhyNoStores, WhyNoOutputs}
+use Rattle.restore_trim.specs.Refused.{StoresOpen, TellsStores, WhyNoStores, WhyNoOutputs}
 use Rattle.restore_trim.specs.Standing.{HoldsStores, HoldsOutputs, IsRestored, SameFrom, SameOutside}
 use Rattle.restore_trim.proofs.Others.{opened_others}
 use Rattle.restore_trim.proofs.Outcomes.{leaves_opening, restored_before, restored_now}
@@ -152,3 +152,10 @@ returns-clause-opens g c = λ told.
 
 pub returns-clause-limits : goal.returns-clause-limits
 returns-clause-limits g c = subst (λ (ts : List Content). All AreWithinLimits ts) (sym c.from_vec.ensures) c.in-Ok-open_stores.ensures.limits
+
+pub returns-in-Err-clause-told : goal.returns-in-Err-clause-told
+returns-in-Err-clause-told g c = inl c.in-Err.ensures.told
+
+pub returns-in-Err-open_stores-clause-told : goal.returns-in-Err-open_stores-clause-told
+returns-in-Err-open_stores-clause-told g c =
+    inr (inl (subst (λ (xs : List StoreSetup). TellsStores (length xs) c.in-Err-open_stores.fault) c.as_slice.ensures c.in-Err-open_stores.ensures.told))

@@ -13,7 +13,7 @@ use Rattle.std.proofs.lemmas.List.{length-map}
 use Rattle.kv_store.specs.Tracked.{Tracked}
 use Rattle.task_unit.specs.Acting.{held}
 use Rattle.task_unit.specs.Held.{contents_of}
-use Rattle.task_unit.specs.Inputs.{WhyNoInput}
+use Rattle.task_unit.specs.Inputs.{TellsInput, WhyNoInput}
 use Rattle.task_unit.specs.Units.{input_of}
 use Rattle.task_unit.proofs.Begun.{restored_as, restores_as, stands_restored, whole_restored, logs_stay, next_kept}
 use Rattle.task_unit.proofs.beginning.start.Goals as goal
@@ -195,3 +195,13 @@ returns-in-Ok-begin-clause-sized g c = record {
   stores = sym (length-map (held c.in-Ok-begin.started.holdings).stores (λ (t : Tracked). t.content)) ∙ ap length c.in-Ok-begin.ensures.contents ∙ c.in-Ok.ensures.sizes.0;
   outputs = c.in-Ok-begin.ensures.outputs ∙ ap length c.as_slice-2.ensures;
 }
+
+pub returns-in-Err-clause-told : goal.returns-in-Err-clause-told
+returns-in-Err-clause-told g c = inl c.in-Err.ensures.told
+
+pub returns-in-Err-read_input-clause-told : goal.returns-in-Err-read_input-clause-told
+returns-in-Err-read_input-clause-told g c =
+    inr (subst (λ (i : InputSetup). TellsInput i.ssp.partition c.in-Err-read_input.fault) c.first_input-input.ensures c.in-Err-read_input.ensures.told)
+
+pub returns-in-Err-first_offset-clause-told : goal.returns-in-Err-first_offset-clause-told
+returns-in-Err-first_offset-clause-told g c = inr (c.in-Err-first_offset.ensures.told (input_of c.args.setup.now).ssp.partition)
