@@ -1,4 +1,5 @@
-//! Each call of what the container sees of its machine, once: disks and folders in memory, real folders, and sinks.
+//! What the container sees of its machine: disks and folders in memory, real folders, and sinks, where calls go well and where they
+//! are told to fail.
 #![tactic(auto)]
 
 #[cfg(test)]
