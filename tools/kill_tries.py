@@ -104,7 +104,7 @@ class Tries:
         """The last checkpoint's number, its changelog, and how many of its records the checkpoint counts."""
         task = os.path.join(folder, "tasks", "0")
         number, mark = topicfile.checkpoints(os.path.join(task, "0.log"))[-1]
-        count = mark["stores"][0][2][0]
+        count = mark["stores"][0][1]
         changes = log_of(os.path.join(task, "1.log"))
         assert number in self.stores, f"checkpoint {number}"
         assert mark["inputs"] == [("kafka.lines", 0, BEFORE if number == 1 else BEFORE + ADDED)], mark
@@ -133,7 +133,7 @@ class Tries:
         reverted = changes + [(key, self.stores[number].get(key)) for key in sorted({key for key, _ in tail})]
         behind = log_of(os.path.join(folder, "tasks", "0", "1.log"))
         assert behind[: len(reverted)] == reverted, "the changelog's tail isn't taken back"
-        assert mark["stores"][0][2][0] == len(behind), "the checkpoint doesn't count the changelog"
+        assert mark["stores"][0][1] == len(behind), "the checkpoint doesn't count the changelog"
         assert folded(behind) == self.stores[2], "the store behind the last run"
         taken = ", with a tail taken back" if tail else ""
         return f"went on behind checkpoint {number}{taken}"

@@ -132,14 +132,10 @@ def take(data, at, size):
 
 
 def parse_checkpoint(value):
-    out, at = {}, 0
-    version = value[0]
+    out = {}
+    if value[0] != 1:
+        raise ValueError(f"format {value[0]}")
     at = 1
-    if version == 2:
-        raw, at = take(value, at, 8)
-        out["moment"] = int.from_bytes(raw, "big")
-    elif version != 1:
-        raise ValueError(f"format {version}")
     raw, at = take(value, at, 2)
     out["inputs"] = []
     for _ in range(int.from_bytes(raw, "big")):
@@ -152,16 +148,8 @@ def parse_checkpoint(value):
     for _ in range(raw[0]):
         size, at = take(value, at, 1)
         name, at = take(value, at, size[0])
-        if version == 1:
-            rest, at = take(value, at, 8)
-            out["stores"].append((name.decode("latin-1"), 0, [int.from_bytes(rest, "big")]))
-        else:
-            rest, at = take(value, at, 5)
-            counts = []
-            for _ in range(rest[4]):
-                raw8, at = take(value, at, 8)
-                counts.append(int.from_bytes(raw8, "big"))
-            out["stores"].append((name.decode("latin-1"), int.from_bytes(rest[:4], "big"), counts))
+        rest, at = take(value, at, 8)
+        out["stores"].append((name.decode("latin-1"), int.from_bytes(rest, "big")))
     raw, at = take(value, at, 1)
     out["outputs"] = []
     for _ in range(raw[0]):
