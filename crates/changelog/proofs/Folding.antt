@@ -10,7 +10,7 @@ use Rattle.kv_store.specs.Tracked.{AreWithinLimits}
 use Rattle.topic_log.specs.declared.extents.Place.{Place}
 use Rattle.topic_log.specs.declared.logs.Log.{Log}
 use Rattle.topic_log.specs.Batches.{HasPlace, IsNext}
-use Rattle.topic_log.specs.Extents.{IsPlace}
+use Rattle.topic_log.specs.Extents.{StandsBehind}
 use Rattle.topic_log.specs.Moves.{Rests}
 use Rattle.topic_log.specs.Opened.{IsOpen}
 use Rattle.topic_log.proofs.Moving.{rests_then}
@@ -23,7 +23,7 @@ use Rattle.changelog.proofs.Reverting.{within-take, within-drop, within-foldrec,
 -- the records are those of the frames before the place
 pub record ReadTo (frames : List (List Record)) (place : Place) (records : List Record) : Type 0 where
   pub before : List (List Record)
-  pub stands : IsPlace frames before place
+  pub stands : StandsBehind frames before place
   pub records_are : records ≡ joined before
 
 -- what holds before each batch
@@ -40,7 +40,7 @@ pub record Folding {D N : Type 0} (tells : Type 0) (reads : D → Image) (number
   pub named : name now ≡ name first
 
 module _ {D N : Type 0} (tells : Type 0) (reads : D → Image) (number : D → ℕ) (images : D → Image → Type 0) (since : D → ℕ → Image → Type 0) (faults : D → ℕ) (name : D → N) (first : D) (old : Log) (count : ℕ) where
-  pub folding_none : (log : Log) (place : Place) (fold : Fold) → log ≡ old → ((frames : List (List Record)) → IsPlace frames [] place) → HasRead count [] fold → (tells → Rests reads number images since first first)
+  pub folding_none : (log : Log) (place : Place) (fold : Fold) → log ≡ old → ((frames : List (List Record)) → StandsBehind frames [] place) → HasRead count [] fold → (tells → Rests reads number images since first first)
       → Folding tells reads number images since faults name first first old log place count fold
   folding_none log place fold same stands none rests = record {
     same = same;

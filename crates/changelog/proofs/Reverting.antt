@@ -6,11 +6,11 @@ use Rattle.std.proofs.lemmas.List.{take-append-drop, drop_all}
 use Rattle.samza_model.specs.declared.messages.Record.{Record}
 use Rattle.samza_model.specs.Content.{Content, nothing_stored, updated, replayed, foldrec}
 use Rattle.samza_model.specs.Limits.{IsWithinLimits}
-use Rattle.kv_store.specs.Tracked.{set_of, AreWithinLimits}
+use Rattle.kv_store.specs.Tracked.{set_of, AreWithinLimits, records_of}
 use Rattle.kv_store.proofs.Updates.{same_key, get-updated, replayed-append}
 use Rattle.kv_store.proofs.Tracking.{AreWithinLimits-updated, AreWithinLimits-nothing, get-within, replayed-unlogged}
 use Rattle.topic_log.proofs.Spelling.{all_front, all_back}
-use Rattle.changelog.specs.Folds.{keys_of, records_at, reverts_of, IsFold}
+use Rattle.changelog.specs.Folds.{keys_of, reverts_of, IsFold}
 use Rattle.kv_store.proofs.KeySets.{has, is_in-set_of}
 use Rattle.changelog.proofs.KeySets.{keys-set_of_none, all_set_of}
 
@@ -49,20 +49,20 @@ pub keys_of-none : (count : ℕ) (records : List Record) → length records ≤ 
 keys_of-none count records all = ap keys_of (drop_all count records all) ∙ keys-set_of_none
 
 pub reverts_of-none : (count : ℕ) (records : List Record) → length records ≤ count → reverts_of count records ≡ []
-reverts_of-none count records all = ap (records_at (foldrec (take count records))) (keys_of-none count records all)
+reverts_of-none count records all = ap (records_of (foldrec (take count records))) (keys_of-none count records all)
 
 pub reverts_of-all : (records : List Record) → reverts_of (length records) records ≡ []
 reverts_of-all records = reverts_of-none (length records) records (omega arith)
 
 -- what a fold gave is what the reverting records are made of
-pub records_at-fold : (count : ℕ) (records : List Record) (content : Content) (touched : List (List ℕ)) → IsFold count records content touched → records_at content touched ≡ reverts_of count records
-records_at-fold count records content touched f = (λ i. records_at (f.content_is i) (f.touched_are i))
+pub records_of-fold : (count : ℕ) (records : List Record) (content : Content) (touched : List (List ℕ)) → IsFold count records content touched → records_of content touched ≡ reverts_of count records
+records_of-fold count records content touched f = (λ i. records_of (f.content_is i) (f.touched_are i))
 
 -- the same of the records that were made of what a fold gave
-pub replayed-reverted : (count : ℕ) (logged records : List Record) (content : Content) (touched : List (List ℕ)) → records ≡ records_at content touched
+pub replayed-reverted : (count : ℕ) (logged records : List Record) (content : Content) (touched : List (List ℕ)) → records ≡ records_of content touched
     → content ≡ foldrec (take count logged) → touched ≡ keys_of (drop count logged) → replayed (foldrec logged) records ≡ content
 replayed-reverted count logged records content touched are content_is touched_are =
-    ap (replayed (foldrec logged)) (are ∙ records_at-fold count logged content touched (record { content_is = content_is; touched_are = touched_are }))
+    ap (replayed (foldrec logged)) (are ∙ records_of-fold count logged content touched (record { content_is = content_is; touched_are = touched_are }))
     ∙ replayed-reverts_of count logged ∙ sym content_is
 
 -- ---- limits
@@ -86,11 +86,11 @@ short_keys (r ∷ rs) each = (each.0.key, short_keys rs each.1)
 pub short-keys_of : (records : List Record) → AllByRecursion IsWithinLimits records → AllByRecursion (λ key. length key ≤ 1024) (keys_of records)
 short-keys_of records each = all_set_of (λ key. length key ≤ 1024) (keys_in records) (short_keys records each)
 
-pub within-records_at : (c : Content) (keys : List (List ℕ)) → AreWithinLimits c → AllByRecursion (λ key. length key ≤ 1024) keys → AllByRecursion IsWithinLimits (records_at c keys)
-within-records_at c [] old short = tt
-within-records_at c (k ∷ ks) old short = (record { key = short.0; value = get-within c k old }, within-records_at c ks old short.1)
+pub within-records_of : (c : Content) (keys : List (List ℕ)) → AreWithinLimits c → AllByRecursion (λ key. length key ≤ 1024) keys → AllByRecursion IsWithinLimits (records_of c keys)
+within-records_of c [] old short = tt
+within-records_of c (k ∷ ks) old short = (record { key = short.0; value = get-within c k old }, within-records_of c ks old short.1)
 
 -- the records that take the tail back are as long at most as records may be
 pub within-reverts_of : (count : ℕ) (records : List Record) → AllByRecursion IsWithinLimits records → AllByRecursion IsWithinLimits (reverts_of count records)
-within-reverts_of count records each = within-records_at (foldrec (take count records)) (keys_of (drop count records))
+within-reverts_of count records each = within-records_of (foldrec (take count records)) (keys_of (drop count records))
     (within-foldrec (take count records) (within-take count records each)) (short-keys_of (drop count records) (within-drop count records each))

@@ -3,19 +3,15 @@ use Rattle.std.specs.Prelude.{ℕ, ◌≡◌, List, map, take, drop}
 use Rattle.std.specs.FinMap as fin
 use Rattle.samza_model.specs.declared.messages.Record.{Record}
 use Rattle.samza_model.specs.Content.{Content, foldrec}
-use Rattle.kv_store.specs.Tracked.{set_of, record_now}
+use Rattle.kv_store.specs.Tracked.{set_of, records_of}
 
 -- the records' keys, each once, in the order of their bytes
 abbrev pub keys_of : List Record → List (List ℕ)
 keys_of records = fin.keys (set_of (map (λ (r : Record). r.key) records))
 
--- a record for each of the keys, with the value that it has in the content, or without one
-abbrev pub records_at : Content → List (List ℕ) → List Record
-records_at content keys = map (record_now content) keys
-
 -- what takes the records behind the first so many back: each of their keys, as the first ones left it
 abbrev pub reverts_of : ℕ → List Record → List Record
-reverts_of count records = records_at (foldrec (take count records)) (keys_of (drop count records))
+reverts_of count records = records_of (foldrec (take count records)) (keys_of (drop count records))
 
 -- the content that the first so many records make, and the keys of the others
 pub record IsFold (count : ℕ) (records : List Record) (content : Content) (touched : List (List ℕ)) : Type 0 where

@@ -11,7 +11,8 @@ ghost use Rattle.topic_log.specs.declared.logs.Log.{Log as LogValue};
 ghost use Rattle.topic_log.specs.Damage.{IsDamagedAt};
 ghost use Rattle.topic_log.specs.Moves.{Rests, Same};
 ghost use Rattle.topic_log.specs.Opened.{file_of, count_of, size_of, is_broken, IsLeft, IsOpen, Appends, KeepsExtent, KeepsFrames};
-ghost use Rattle.topic_log.specs.Steps.{closed_frames};
+ghost use Rattle.topic_log.specs.Growth.{HasRoom, LacksRoom};
+ghost use Rattle.topic_log.specs.Steps.{closed_frames, record_count};
 ghost use Rattle.changelog.specs.Folds.{IsFold};
 
 use crate::folds::Fold;
@@ -145,12 +146,13 @@ impl Changelog {
     /// Appends the frames in order, under one pair of syncs, and answers the new number of records. An empty list makes no
     /// device call. It takes no memory.
     ///
-    /// `Limit` comes before any device call where the file would pass 2^40 bytes. After `Device` the changelog is broken,
-    /// and answers `Broken` from then on.
+    /// `Limit` comes before any device call where the file would pass 2^40 bytes by these frames, and never for an empty
+    /// list. After `Device` the changelog is broken, and answers `Broken` from then on.
     pub fn write<D: Disk>(&mut self, disk: &mut D, frames: &[Frame]) -> Result<u64, LogFault>
         requires { D.tells → is_broken self.old ≡ false → (before : List (List Record)) × IsOpen (D.reads disk.old) (D.images disk.old) self.old before }
 
         ensures count { IfOk result (λ n. n ≡ count_of self.new) }
+        ensures counted { IfOk result (λ n. n ≡ count_of self.old + record_count frames.now) }
         ensures file { file_of self.new ≡ file_of self.old }
 
         // The changelog has the frames before, followed by these, in every image.
@@ -166,9 +168,9 @@ impl Changelog {
         ensures others { D.tells → (log : LogValue) (frames : List (List Record)) → file_of log ≢ file_of self.old
             → IsOpen (D.reads disk.old) (D.images disk.old) log frames → IsOpen (D.reads disk.new) (D.images disk.new) log frames }
 
-        ensures ok { OnOk result ((is_broken self.old ≡ false) × (size_of self.old + length (closed_frames frames.now) ≤ 2 ^ 40)) }
+        ensures ok { OnOk result ((is_broken self.old ≡ false) × HasRoom (size_of self.old) frames.now) }
         ensures broken { IfErr result (λ e. (e ≡ LogFault.Broken) ↔ (is_broken self.old ≡ true)) }
-        ensures limit { IfErr result (λ e. (e ≡ LogFault.Limit) ↔ ((is_broken self.old ≡ false) × (2 ^ 40 < size_of self.old + length (closed_frames frames.now)))) }
+        ensures limit { IfErr result (λ e. (e ≡ LogFault.Limit) ↔ ((is_broken self.old ≡ false) × LacksRoom (size_of self.old) frames.now)) }
         ensures device { IfErr result (λ e. e ≡ LogFault.Device → Rose (D.fault_count disk.old) (D.fault_count disk.new)) }
         ensures never { IfErr result (λ e. ((at : ℕ) → e ≢ LogFault.Damaged at) × (e ≢ LogFault.NoMemory)) }
 

@@ -4,8 +4,8 @@ ghost use Rattle.std.specs.List.{AllByRecursion};
 ghost use Rattle.samza_model.specs.declared.messages.Record.{Record as RecordValue};
 ghost use Rattle.samza_model.specs.Content.{foldrec, replayed};
 ghost use Rattle.samza_model.specs.Limits.{IsWithinLimits};
-ghost use Rattle.kv_store.specs.Tracked.{record_now, AreWithinLimits};
-ghost use Rattle.changelog.specs.Folds.{keys_of, records_at};
+ghost use Rattle.kv_store.specs.Tracked.{record_now, AreWithinLimits, records_of};
+ghost use Rattle.changelog.specs.Folds.{keys_of};
 
 use kv_store::Table;
 use samza_model::{Bin, NoMemory, Plain, Record};
@@ -15,7 +15,7 @@ use std::alloc::Global;
 /// that `fold` gave, these records, written behind the log, make its content that of the table again. The one error is want
 /// of memory.
 pub fn revert(alloc: Global, table: &Table, touched: &[Bin]) -> Result<Vec<Record>, NoMemory>
-    ensures exact { IfOk result (λ records. records.items ≡ records_at table.now touched.now) }
+    ensures exact { IfOk result (λ records. records.items ≡ records_of table.now touched.now) }
     ensures reverts { IfOk result (λ records. (count : ℕ) (logged : List RecordValue) → table.now ≡ foldrec (take count logged) → touched.now ≡ keys_of (drop count logged) → replayed (foldrec logged) records.items ≡ table.now) }
     ensures limits { AreWithinLimits table.now → AllByRecursion (λ key. length key ≤ 1024) touched.now → IfOk result (λ records. AllByRecursion IsWithinLimits records.items) }
 {

@@ -9,7 +9,7 @@ use Rattle.samza_model.specs.Restored.{EndsWith}
 use Rattle.topic_log.specs.declared.extents.Place.{Place}
 use Rattle.topic_log.specs.declared.logs.Log.{Log}
 use Rattle.topic_log.specs.Batches.{HasPlace, IsNext}
-use Rattle.topic_log.specs.Extents.{IsLast, IsPlace}
+use Rattle.topic_log.specs.Extents.{IsLast, StandsBehind}
 use Rattle.topic_log.specs.Opened.{IsOpen, count_of}
 use Rattle.topic_log.proofs.Spelling.{spelled-append}
 use Rattle.checkpoint_log.specs.Ends.{IsAlone, IsEnd, IsBadEnd}
@@ -32,7 +32,7 @@ module _ (reads : Image) (images : Image → Type 0) (log : Log) (frames : List 
   pub byte_small : place.byte + 1 < 2 ^ 62 + 1
   byte_small =
       let small : log.extent.gate < 2 ^ 62 = log.extent.small in
-      omega (arith, h.extent.gate, is.byte, ap (λ (fs : List (List Record)). length (spelled fs)) is.front, ap length (spelled-append is.before (is.batch ∷ [])), length-append (spelled is.before) (spelled (is.batch ∷ [])))
+      omega (arith, h.extent.gate, is.stands.byte, ap (λ (fs : List (List Record)). length (spelled fs)) is.front, ap length (spelled-append is.before (is.batch ∷ [])), length-append (spelled is.before) (spelled (is.batch ∷ [])))
 
   batch_is : (records : List Record) (next : Place) → IsNext frames is.before (Some (records, next)) → records ≡ is.batch
   batch_is records next n =
@@ -44,7 +44,7 @@ module _ (reads : Image) (images : Image → Type 0) (log : Log) (frames : List 
     before = is.before;
     last = a.alone;
     split = is.front ∙ ap (λ (l : List Record). is.before ++ l ∷ []) (sym (batch_is records next n) ∙ a.records_are);
-    spells = a.spells;
+    spells = a.stands_for;
     id = a.id ∙ h.extent.count;
   }
 
@@ -53,11 +53,11 @@ module _ (reads : Image) (images : Image → Type 0) (log : Log) (frames : List 
     before = is.before;
     last = is.batch;
     split = is.front;
-    at_is = at_is ∙ ap (λ b. b + 1) is.byte;
+    at_is = at_is ∙ ap (λ b. b + 1) is.stands.byte;
     bad = λ k e. bad k (record {
       alone = e.last;
       records_are = batch_is records next n ∙ same_last is.before e.before is.batch (e.last ∷ []) (sym is.front ∙ e.split);
-      spells = e.spells;
+      stands_for = e.spells;
       id = e.id ∙ sym h.extent.count;
     });
   }
@@ -67,8 +67,8 @@ abbrev pub before_of : (frames : List (List Record)) (place : Place) → IsEnd f
 before_of frames place (inl is) = is.before
 before_of frames place (inr none) = []
 
-before_end : (frames : List (List Record)) (place : Place) (end : IsEnd frames place) → IsPlace frames (before_of frames place end) place
-before_end frames place (inl is) = record { behind = is.batch ∷ []; front = is.front; byte = is.byte; index = is.index }
+before_end : (frames : List (List Record)) (place : Place) (end : IsEnd frames place) → StandsBehind frames (before_of frames place end) place
+before_end frames place (inl is) = is.stands
 before_end frames place (inr none) = none.1
 
 pub has_place : (reads : Image) (images : Image → Type 0) (log : Log) (frames : List (List Record)) → IsOpen reads images log frames → (place : Place) (end : IsEnd frames place) → HasPlace reads images log place frames (before_of frames place end)
@@ -86,4 +86,4 @@ last_at_end frames place (inr none) records next n = absurd (omega (arith, ap le
 
 -- the same records and the same number
 pub alone_is : (shown records : List Record) (n count : ℕ) (k : Checkpoint) → shown ≡ records → n ≡ count → IsAlone shown n k → IsAlone records count k
-alone_is shown records n count k same counted a = record { alone = a.alone; records_are = sym same ∙ a.records_are; spells = a.spells; id = a.id ∙ counted }
+alone_is shown records n count k same counted a = record { alone = a.alone; records_are = sym same ∙ a.records_are; stands_for = a.stands_for; id = a.id ∙ counted }

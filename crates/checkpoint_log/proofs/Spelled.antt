@@ -1,14 +1,10 @@
 -- Names.
-use Rattle.std.proofs.Common.{ℕ, ◌≡◌, ◌+◌, ◌≤◌, ◌==◌, ◌&&◌, nat_le, nat_lt, List, [], ◌∷◌, length, take, drop, Bool, not, ◌||◌, true, false, refl, sym, ◌∙◌, ap, arith, drop-drop}
-use Rattle.std.specs.Bool.{Decides}
-use Rattle.std.specs.List.{AllByRecursion, list_all, position_or_len, before_first, after_first}
+use Rattle.std.proofs.Common.{ℕ, ◌≡◌, ◌+◌, ◌≤◌, ◌==◌, ◌&&◌, nat_le, List, [], ◌∷◌, length, take, drop, Bool, not, ◌||◌, true, false, refl, sym, ◌∙◌, ap, arith, drop-drop}
+use Rattle.std.specs.List.{list_all, position_or_len, before_first, after_first}
 use Rattle.std.proofs.lemmas.List.{length-drop, length-append, take-append-drop}
-use Rattle.std.proofs.lemmas.Bool.{ltb-true, lt-ltb, leb-true}
+use Rattle.std.proofs.lemmas.Bool.{leb-true}
 use Rattle.std.specs.Cmp.Lexicographic.{pointwise}
-use Rattle.samza_model.specs.declared.checkpoints.InputMark.{InputMark}
 use Rattle.samza_model.specs.Names.{is_between, is_name_byte, is_system, is_stream, is_topic}
-use Rattle.samza_model.specs.Checkpoint.{FitsInput}
-use Rattle.checkpoint_log.specs.Fits.{input_fits}
 
 pub topic_then : (name : List ℕ) (dot : ℕ) (system rest : List ℕ) (b : Bool) → dot ≡ position_or_len (λ c. c == 46) name → system ≡ take dot name → rest ≡ drop dot name → is_system system ≡ true
     → b ≡ is_stream (drop 1 rest) → b ≡ is_topic name
@@ -27,19 +23,6 @@ and_right false b is = absurd cc
 
 and_both : (a b : Bool) → a ≡ true → b ≡ true → (a && b) ≡ true
 and_both a b p q = cc
-
-input_Decides : (i : InputMark) → Decides (input_fits i) (FitsInput i)
-input_Decides i = (
-  (λ h. record { name = and_left (is_topic i.stream) (nat_lt i.partition 256) h; partition = ltb-true i.partition 256 (and_right (is_topic i.stream) (nat_lt i.partition 256) h) }),
-  (λ h. and_both (is_topic i.stream) (nat_lt i.partition 256) h.name (lt-ltb i.partition 256 h.partition)),
-)
-
-pub inputs_Decides : (list : List InputMark) → Decides (list_all input_fits list) (AllByRecursion FitsInput list)
-inputs_Decides [] = ((λ h. tt), (λ h. refl))
-inputs_Decides (i ∷ is) = (
-  (λ h. ((input_Decides i).0 (and_left (input_fits i) (list_all input_fits is) h), (inputs_Decides is).0 (and_right (input_fits i) (list_all input_fits is) h))),
-  (λ h. and_both (input_fits i) (list_all input_fits is) ((input_Decides i).1 h.0) ((inputs_Decides is).1 h.1)),
-)
 
 -- names are short
 pub system_short : (name : List ℕ) → is_system name ≡ true → length name ≤ 64

@@ -1,4 +1,3 @@
 pub mod Ends
-pub mod Fits
 pub mod Reading
-pub use Rattle.samza_model.specs.Checkpoint.{checkpoint_record, IsWellFormed, IsInRange, Spells}
+pub use Rattle.samza_model.specs.Checkpoint.{checkpoint_record, IsWellFormed, IsInRange, Spells, StandsFor}

@@ -1,7 +1,7 @@
 // The checkpoint of a record. It is read leniently, tested, spelled again and compared with the record.
 ghost use Rattle.std.specs.Prelude.{◌≡◌, IfOk, IfErr};
 ghost use Rattle.samza_model.specs.declared.checkpoints.Checkpoint.{Checkpoint as CheckpointValue};
-ghost use Rattle.samza_model.specs.Checkpoint.{Spells};
+ghost use Rattle.samza_model.specs.Checkpoint.{StandsFor};
 ghost use Rattle.checkpoint_log.specs.Reading.{Gives, name_at, input_at, store_at, list_at, fields_at, checkpoint_at};
 
 use crate::CheckpointFault;
@@ -90,13 +90,13 @@ fn checkpoint_of(alloc: Global, r: &Record) -> Result<Checkpoint, CheckpointFaul
     }
 }
 
-/// The checkpoint that the record spells. Bad comes exactly where it spells none.
+/// The checkpoint for which the record stands. Bad comes exactly where it stands for none.
 pub fn decode_checkpoint(alloc: Global, r: &Record) -> Result<Checkpoint, CheckpointFault>
-    ensures found { IfOk result (λ c. Spells c r.now) }
+    ensures found { IfOk result (λ c. StandsFor r.now c) }
 
-    // A record spells one checkpoint.
-    ensures only { (k : CheckpointValue) → Spells k r.now → IfOk result (λ c. c ≡ k) }
-    ensures bad { IfErr result (λ e. e ≡ CheckpointFault.Bad → (k : CheckpointValue) → Spells k r.now → ⊥) }
+    // A record stands for one checkpoint.
+    ensures only { (k : CheckpointValue) → StandsFor r.now k → IfOk result (λ c. c ≡ k) }
+    ensures bad { IfErr result (λ e. e ≡ CheckpointFault.Bad → (k : CheckpointValue) → StandsFor r.now k → ⊥) }
 {
     let c = checkpoint_of(alloc, r)?;
     if !is_well_formed(&c) {

@@ -1,13 +1,13 @@
 // The checkpoint with which a log ends.
-ghost use Rattle.std.specs.Prelude.{◌≡◌, ◌≢◌, ◌≤◌, ◌⊎◌, ◌↔◌, ◌∷◌, [], ℕ, true, false, List, IfOk, IfErr, OnErr, OnOk};
+ghost use Rattle.std.specs.Prelude.{◌≡◌, ◌≢◌, ◌+◌, ◌≤◌, ◌⊎◌, ◌↔◌, ◌∷◌, [], ℕ, true, false, List, IfOk, IfErr, OnErr, OnOk};
 ghost use Rattle.samza_model.specs.declared.messages.Record.{Record as RecordValue};
 ghost use Rattle.samza_model.specs.declared.checkpoints.Checkpoint.{Checkpoint as CheckpointValue};
-ghost use Rattle.samza_model.specs.Checkpoint.{Spells};
 ghost use Rattle.samza_model.specs.Counters.{Rose};
+ghost use Rattle.samza_model.specs.Restored.{id_of, EndsAs};
 ghost use Rattle.topic_log.specs.declared.logs.Log.{Log as LogValue};
 ghost use Rattle.topic_log.specs.Moves.{Rests};
-ghost use Rattle.topic_log.specs.Opened.{file_of, is_broken, HasExtent, KeepsExtent, IsOpen};
-ghost use Rattle.checkpoint_log.specs.Ends.{IsAlone, IsEnd, EndsAs, IsBadEnd};
+ghost use Rattle.topic_log.specs.Opened.{file_of, count_of, size_of, is_broken, HasExtent, KeepsExtent, IsOpen};
+ghost use Rattle.checkpoint_log.specs.Ends.{IsAlone, IsEnd, IsBadEnd};
 
 use crate::{CheckpointFault, decode_checkpoint};
 use disk_model::Disk;
@@ -40,7 +40,8 @@ fn checkpoint_in(
 
 /// The place before the log's last frame, or before the first where it has none.
 fn end_of(log: &Log) -> Place
-    ensures { (frames : List (List RecordValue)) → HasExtent log.now frames → IsEnd frames result }
+    ensures end { (frames : List (List RecordValue)) → HasExtent log.now frames → IsEnd frames result }
+    ensures empty { size_of log.now ≤ result.byte + 1 → count_of log.now ≡ 0 }
 {
     match log.last() {
         Some(place) => place,
@@ -61,6 +62,8 @@ pub fn last<D: Disk>(
     requires opened { D.tells → is_broken log.old ≡ false → (frames : List (List RecordValue)) × IsOpen (D.reads disk.old) (D.images disk.old) log.old frames }
 
     ensures last { IfOk result (λ m. D.tells → (frames : List (List RecordValue)) → IsOpen (D.reads disk.old) (D.images disk.old) log.old frames → EndsAs frames m) }
+    // On every disk the checkpoint's number is the log's number of records, and none is answered only where it has none.
+    ensures counted { IfOk result (λ m. id_of m ≡ count_of log.old) }
     ensures damaged { IfErr result (λ e. (at : ℕ) → e ≡ LogFault.Damaged at → D.tells → (frames : List (List RecordValue)) → IsOpen (D.reads disk.old) (D.images disk.old) log.old frames → IsBadEnd frames at) }
 
     ensures ok { OnOk result ((is_broken log.old ≡ false) × (log.new ≡ log.old)) }

@@ -1,13 +1,12 @@
 // What is asked of a checkpoint's lists.
 ghost use Rattle.std.specs.Prelude.{◌≡◌, ◌↔◌, ◌==◌, true, IsTrue};
-ghost use Rattle.std.specs.List.{AllByRecursion, list_all, list_any};
+ghost use Rattle.std.specs.List.{AllByRecursion, list_any};
 ghost use Rattle.std.specs.Cmp.Lexicographic.{pointwise};
 ghost use Rattle.samza_model.specs.Names.{is_topic, is_system};
-ghost use Rattle.checkpoint_log.specs.Fits.{input_fits};
 ghost use Rattle.samza_model.specs.Checkpoint.{is_before, inputs_rise_behind, inputs_rise, stores_rise_behind, stores_rise, are_distinct, FitsInput, IsWellFormed};
 
 use crate::names::{is_system_name, is_topic_name};
-use samza_model::{Bin, Checkpoint, InputMark, StoreMark};
+use samza_model::{Bin, Checkpoint, InputMark, OUTPUT_LIMIT, STORE_LIMIT, StoreMark};
 
 fn stands_before(a: &InputMark, b: &InputMark) -> bool
     ensures { result ≡ is_before a.now b.now }
@@ -81,18 +80,16 @@ fn are_all_distinct(list: &[Bin]) -> bool
     true
 }
 
-fn each_input_fits(list: &[InputMark]) -> bool
-    ensures { result ≡ list_all input_fits list.now }
+fn input_fits(input: &InputMark) -> bool
+    ensures { IsTrue result ↔ FitsInput input.now }
 {
-    list.iter()
-        .all(|x| is_topic_name(x.stream.bytes()) && x.partition < 256)
+    is_topic_name(input.stream.bytes()) && input.partition < 256
 }
 
-#[tactic(auto, using(crate::proofs::Spelled::inputs_Decides))]
 fn inputs_fit(list: &[InputMark]) -> bool
     ensures { IsTrue result ↔ AllByRecursion FitsInput list.now }
 {
-    each_input_fits(list)
+    list.iter().all(|x| input_fits(x))
 }
 
 fn stores_fit(list: &[StoreMark]) -> bool
@@ -116,8 +113,8 @@ pub fn is_well_formed(c: &Checkpoint) -> bool
     let stores = c.stores.as_slice();
     let outputs = c.outputs.as_slice();
     inputs.len() <= 64
-        && stores.len() <= 8
-        && outputs.len() <= 8
+        && stores.len() <= STORE_LIMIT
+        && outputs.len() <= OUTPUT_LIMIT
         && inputs_fit(inputs)
         && stores_fit(stores)
         && outputs_fit(outputs)

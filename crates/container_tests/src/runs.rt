@@ -178,14 +178,18 @@ fn empty_logs_are_run_on(rt: HostRuntime) -> Result<(), Fail> {
     Ok(())
 }
 
-/// Words that are no command, and the line that tells the place of the first bad one.
+/// Words that are no command, and the line that tells the place of the first bad one. The folder could be run, and stays as it is.
 const NO_COMMANDS: &[Step] = &[
+    Step::Lines(0, TWO_LINES),
     Step::Ends(&[], 2, b"", b"usage: word 1\n"),
     Step::Ends(&["walk", "f"], 2, b"", b"usage: word 1\n"),
     Step::Ends(&["run"], 2, b"", b"usage: word 2\n"),
     Step::Ends(&["run", ""], 2, b"", b"usage: word 2\n"),
     Step::Ends(&["run", "-f"], 2, b"", b"usage: word 2\n"),
     Step::Ends(&["run", "f", "x"], 2, b"", b"usage: word 3\n"),
+    Step::Has(0, b""),
+    Step::Has(1, b""),
+    Step::Has(16, b""),
 ];
 
 #[test]

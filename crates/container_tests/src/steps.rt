@@ -46,6 +46,18 @@ pub(crate) fn folder(alloc: Global, text: &[u8]) -> Result<MemHost, Fail>
     Ok(MemHost::new(alloc, Some(text), 20_000, 1000)?)
 }
 
+/// Puts a file's bytes into the folder.
+fn put(host: &mut MemHost, name: &DiskName, file: u32, bytes: &[u8]) -> Result<(), Fail>
+    requires { NoneOut (host_disks_out host.old) (host_shelves_out host.old) }
+    ensures { NoneOut (host_disks_out host.new) (host_shelves_out host.new) }
+{
+    if !host.fits(name, file, bytes.len()) {
+        return Err(Fail::new("it doesn't fit"));
+    }
+    host.put_file(name, file, bytes)?;
+    Ok(())
+}
+
 /// Puts a partition of the input into the folder.
 fn put_lines(alloc: Global, host: &mut MemHost, partition: u32, bytes: &[u8]) -> Result<(), Fail>
     requires { NoneOut (host_disks_out host.old) (host_shelves_out host.old) }
@@ -55,8 +67,7 @@ fn put_lines(alloc: Global, host: &mut MemHost, partition: u32, bytes: &[u8]) ->
         system: Bin::of(alloc, b"kafka")?,
         stream: Bin::of(alloc, b"lines")?,
     };
-    host.put_file(&name, partition, bytes)?;
-    Ok(())
+    put(host, &name, partition, bytes)
 }
 
 /// What a command ended with, and what it printed.
@@ -111,7 +122,7 @@ fn take(alloc: Global, host: &mut MemHost, step: Step) -> Result<(), Fail>
 {
     match step {
         Step::Lines(partition, bytes) => put_lines(alloc, host, partition, bytes)?,
-        Step::File(file, bytes) => host.put_file(&TASK, file, bytes)?,
+        Step::File(file, bytes) => put(host, &TASK, file, bytes)?,
         Step::Fail(call) => host.fail_next(vec![in alloc; call]?),
         Step::Stop(calls) => host.arm(&TASK, Vec::new(alloc), Some(calls))?,
         Step::Crash(pick) => host.crash(&TASK, pick),

@@ -1,9 +1,9 @@
 -- Names of disks, and what is held by name.
-use Rattle.std.proofs.Common.{ℕ, suc, zero, ◌≡◌, ◌≢◌, ◌<◌, ◌==◌, ◌⊎◌, ◌↔◌, true, false, List, [], ◌∷◌, length, get_or, None, Some, refl, sym, ap, ◌∙◌, subst, arith, inl, inr}
+use Rattle.std.proofs.Common.{ℕ, suc, zero, ◌≡◌, ◌≢◌, ◌<◌, ◌==◌, ◌⊎◌, ◌↔◌, Bool, true, false, List, [], ◌∷◌, length, get_or, None, Some, refl, sym, ap, ◌∙◌, subst, arith, inl, inr}
 use Rattle.std.specs.Cmp.Lexicographic.{pointwise}
 use Rattle.std.proofs.lemmas.Bool.{and_from, and_parts, cond-false, cond-true, eq-eqb, eqb-true, cases_Bool, true≢false}
 use Rattle.disk_model.specs.Handles.{same_name}
-use Rattle.disk_model.specs.Slots.{IsPlace, named_at, put_slot, slot_at}
+use Rattle.disk_model.specs.Slots.{IsPlace, put_slot, slot_at}
 use Rattle.disk_model.specs.declared.names.DiskName.{DiskName}
 use Rattle.disk_model.specs.declared.names.DiskName.TheVariants.{Stream, Task}
 use Rattle.disk_model.specs.declared.slots.Slot.{Slot}
@@ -52,6 +52,12 @@ name_cases m n = elim (cases_Bool (same_name m n)) [
 
 pub not_same : (m n : DiskName) → m ≢ n → same_name m n ≡ false
 not_same m n ne = elim (cases_Bool (same_name m n)) [ inl e ↦ absurd (ne (same_then m n e)) | inr e ↦ e ]
+
+-- whether the slot at a place has this name
+abbrev pub named_at : {T : Type 0} → List (Slot T) → DiskName → ℕ → Bool
+named_at [] n i = false
+named_at (s ∷ ss) n zero = same_name s.name n
+named_at (s ∷ ss) n (suc i) = named_at ss n i
 
 module _ {T : Type 0} (n : DiskName) where
   -- what the code read at a place

@@ -8,11 +8,12 @@ use Rattle.disk_model.proofs.ByName.{name_cases}
 use Rattle.disk_model.proofs.SameDisks.{same_disk_trans}
 use Rattle.disk_model.proofs.SlotSteps.{At, pushed_elsewhere, pushed_here, slot_put}
 use Rattle.std.specs.Prelude.{Result, Ok, Err, OnOk, OnErr}
+use Rattle.disk_model.specs.Capacities.{Capacity}
 use Rattle.disk_model.specs.HostSteps.{ChangesHeld}
 use Rattle.disk_model.specs.Handles.{SameDisk}
-use Rattle.disk_model.specs.MemoryDisk.{mem_calls, mem_file_count, mem_images, mem_images_since, mem_name, mem_reads}
-use Rattle.disk_model.specs.MemoryHost.{IsSameHeld, disk_of}
-use Rattle.disk_model.specs.Slots.{held_in, images_in, number_in, reads_in, since_in, slot_at}
+use Rattle.disk_model.specs.MemoryDisk.{mem_calls, mem_capacity, mem_file_count, mem_images, mem_images_since, mem_name, mem_reads}
+use Rattle.disk_model.specs.MemoryHost.{IsSameHeld, disk_of, new_capacity}
+use Rattle.disk_model.specs.Slots.{held_in, images_in, number_in, or_else, reads_in, since_in, slot_at}
 use Rattle.disk_model.specs.declared.memory_disk.MemDisk.{MemDisk}
 use Rattle.disk_model.specs.declared.memory_host.MemHost.{MemHost}
 use Rattle.disk_model.specs.declared.names.DiskName.{DiskName}
@@ -99,6 +100,22 @@ counts_pushed f xs n t none is same m = elim (name_cases m n) [
       let at_n : f (slot_at (xs ++ t ∷ []) n) ≡ f (slot_at xs n) = ap f (pushed_here xs n t none is) ∙ same ∙ ap f (sym none) in
       subst (λ (x : DiskName). f (slot_at (xs ++ t ∷ []) x) ≡ f (slot_at xs x)) (sym e) at_n
   | inr ne ↦ ap f (pushed_elsewhere xs n t is m ne)
+]
+
+-- what can be taken under a name of a host with these bounds, from what stands under it
+abbrev pub capacity_in : ℕ × ℕ → DiskName → Option MemDisk → Capacity
+capacity_in bounds n o = or_else (new_capacity bounds n) mem_capacity o
+
+-- what can be taken by name after a push of a new disk
+pub capacity_pushed : (bounds : ℕ × ℕ) (xs : List (Slot MemDisk)) (n : DiskName) (t : Slot MemDisk) (d : MemDisk) → slot_at xs n ≡ None → t.name ≡ n → t.held ≡ Some d → mem_capacity d ≡ new_capacity bounds n
+    → (m : DiskName) → capacity_in bounds m (held_in (slot_at (xs ++ t ∷ []) m)) ≡ capacity_in bounds m (held_in (slot_at xs m))
+capacity_pushed bounds xs n t d none is held fresh m = elim (name_cases m n) [
+  | inl e ↦
+      let now : held_in (slot_at (xs ++ t ∷ []) n) ≡ Some d = ap held_in (pushed_here xs n t none is) ∙ held in
+      let at_n : capacity_in bounds n (held_in (slot_at (xs ++ t ∷ []) n)) ≡ capacity_in bounds n (held_in (slot_at xs n)) =
+      ap (λ (o : Option MemDisk). capacity_in bounds n o) now ∙ fresh ∙ sym (ap (λ (o : Option MemDisk). capacity_in bounds n o) (ap held_in none)) in
+      subst (λ (x : DiskName). capacity_in bounds x (held_in (slot_at (xs ++ t ∷ []) x)) ≡ capacity_in bounds x (held_in (slot_at xs x))) (sym e) at_n
+  | inr ne ↦ ap (λ (o : Option (Slot MemDisk)). capacity_in bounds m (held_in o)) (pushed_elsewhere xs n t is m ne)
 ]
 
 -- the meanings by name after such a push

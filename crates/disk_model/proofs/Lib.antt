@@ -1,4 +1,5 @@
 pub mod ByName
+pub mod Capacities
 pub mod Counts
 pub mod CrashSteps
 pub mod ArmSteps

@@ -1,6 +1,7 @@
 -- Disks with the same meanings, and counts by name.
 use Rattle.std.proofs.Common.{ℕ, ◌≡◌, ◌≢◌, ◌+◌, refl, sym, ap, ◌∙◌, arith}
 use Rattle.samza_model.specs.Files.{Image}
+use Rattle.disk_model.specs.Folders.{Folder}
 use Rattle.disk_model.specs.Handles.{AsMany, OneMore, SameAt, SameDisk}
 use Rattle.disk_model.specs.declared.names.DiskName.{DiskName}
 
@@ -24,19 +25,19 @@ module _ (r r' : Image) (i i' : Image → Type 0) (s s' : ℕ → Image → Type
     number_is = h'.number_is ∙ h.number_is;
   }
 
-module _ {H : Type 0} (reads : H → DiskName → Image) (images : H → DiskName → Image → Type 0) (since : H → DiskName → ℕ → Image → Type 0) (number files : H → DiskName → ℕ) where
-  pub same_at_refl : (h : H) (n : DiskName) → SameAt reads images since number files h h n
-  same_at_refl h n = record { disk = same_disk_refl (reads h n) (images h n) (since h n) (number h n); files_are = refl }
+module _ {H : Type 0} (folder : H → Folder) (images : H → DiskName → Image → Type 0) (since : H → DiskName → ℕ → Image → Type 0) (number : H → DiskName → ℕ) where
+  pub same_at_refl : (h : H) (n : DiskName) → SameAt folder images since number h h n
+  same_at_refl h n = record { disk = same_disk_refl ((folder h).disks n) (images h n) (since h n) (number h n); files_are = refl }
 
-  pub same_at_sym : (h h' : H) (n : DiskName) → SameAt reads images since number files h h' n → SameAt reads images since number files h' h n
+  pub same_at_sym : (h h' : H) (n : DiskName) → SameAt folder images since number h h' n → SameAt folder images since number h' h n
   same_at_sym h h' n p = record {
-    disk = same_disk_sym (reads h n) (reads h' n) (images h n) (images h' n) (since h n) (since h' n) (number h n) (number h' n) p.disk;
+    disk = same_disk_sym ((folder h).disks n) ((folder h').disks n) (images h n) (images h' n) (since h n) (since h' n) (number h n) (number h' n) p.disk;
     files_are = sym p.files_are;
   }
 
-  pub same_at_trans : (h h' h'' : H) (n : DiskName) → SameAt reads images since number files h h' n → SameAt reads images since number files h' h'' n → SameAt reads images since number files h h'' n
+  pub same_at_trans : (h h' h'' : H) (n : DiskName) → SameAt folder images since number h h' n → SameAt folder images since number h' h'' n → SameAt folder images since number h h'' n
   same_at_trans h h' h'' n p q = record {
-    disk = same_disk_trans (reads h n) (reads h' n) (images h n) (images h' n) (since h n) (since h' n) (number h n) (number h' n) (reads h'' n) (images h'' n) (since h'' n) (number h'' n) p.disk q.disk;
+    disk = same_disk_trans ((folder h).disks n) ((folder h').disks n) (images h n) (images h' n) (since h n) (since h' n) (number h n) (number h' n) ((folder h'').disks n) (images h'' n) (since h'' n) (number h'' n) p.disk q.disk;
     files_are = q.files_are ∙ p.files_are;
   }
 

@@ -1,19 +1,18 @@
 -- A file since its last sync, and what a crash may leave of it.
-use Rattle.std.specs.Prelude.{ℕ, ◌≡◌, ◌+◌, ◌<◌, ◌≤◌, ◌⊎◌, ◌==◌, if◌then◌else◌, Bool, true, false, min, max, List, [], ◌∷◌, length, take, drop, get_or}
+use Rattle.std.specs.Prelude.{ℕ, ◌≡◌, ◌+◌, ◌<◌, ◌≤◌, ◌⊎◌, ◌==◌, if◌then◌else◌, min, max, List, [], ◌∷◌, length, take, drop, get_or}
 use Rattle.samza_model.specs.Files.{Image}
 use Rattle.disk_model.specs.Cells.{put_at}
 use Rattle.disk_model.specs.declared.traces.Entry.{Entry}
 use Rattle.disk_model.specs.declared.traces.Entry.TheVariants.{Quiet, Wrote, Shortened, Synced}
 
--- A file since its last sync: what a read gives, what it gave at the sync, the least and the greatest size, the writes
--- (each as its place and its bytes, the newest first), and whether it was cut.
+-- A file since its last sync: what a read gives, what it gave at the sync, the least and the greatest size, and the writes,
+-- each as its place and its bytes, the newest first.
 pub record FileState : Type 0 where
   pub now : List ℕ
   pub old : List ℕ
   pub least : ℕ
   pub greatest : ℕ
   pub writes : List (ℕ × List ℕ)
-  pub was_cut : Bool
 
 -- a byte that one of the writes wrote
 abbrev pub InWrites : List (ℕ × List ℕ) → ℕ → Type 0
@@ -30,7 +29,7 @@ abbrev pub IsImage : (ℕ → FileState) → Image → Type 0
 IsImage states c = (f : ℕ) → IsFileImage (states f) (c f)
 
 abbrev pub at_rest : List ℕ → FileState
-at_rest bytes = record { now = bytes; old = bytes; least = length bytes; greatest = length bytes; writes = []; was_cut = false }
+at_rest bytes = record { now = bytes; old = bytes; least = length bytes; greatest = length bytes; writes = [] }
 
 abbrev pub with_written : ℕ → List ℕ → FileState → FileState
 with_written at bytes s = record {
@@ -39,7 +38,6 @@ with_written at bytes s = record {
   least = s.least;
   greatest = max s.greatest (at + length bytes);
   writes = (at, bytes) ∷ s.writes;
-  was_cut = s.was_cut;
 }
 
 abbrev pub with_cut : ℕ → FileState → FileState
@@ -49,7 +47,6 @@ with_cut size s = record {
   least = min s.least size;
   greatest = s.greatest;
   writes = s.writes;
-  was_cut = true;
 }
 
 -- a file after a call; the written bytes of all calls stand one after another

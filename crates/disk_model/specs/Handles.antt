@@ -2,6 +2,7 @@
 use Rattle.std.specs.Prelude.{ℕ, ◌≡◌, ◌≢◌, ◌+◌, ◌==◌, ◌↔◌, Bool, false, ◌&&◌}
 use Rattle.std.specs.Cmp.Lexicographic.{pointwise}
 use Rattle.samza_model.specs.Files.{Image}
+use Rattle.disk_model.specs.Folders.{Folder}
 use Rattle.disk_model.specs.declared.names.DiskName.{DiskName}
 use Rattle.disk_model.specs.declared.names.DiskName.TheVariants.{Task, Stream}
 
@@ -33,7 +34,7 @@ pub record SameDisk (reads : Image) (images : Image → Type 0) (since : ℕ →
   pub number_is : number' ≡ number
 
 -- one host's disk of a name is as another's
-pub record SameAt {H : Type 0} (reads : H → DiskName → Image) (images : H → DiskName → Image → Type 0) (since : H → DiskName → ℕ → Image → Type 0)
-    (number files : H → DiskName → ℕ) (old new : H) (n : DiskName) : Type 0 where
-  pub disk : SameDisk (reads old n) (images old n) (since old n) (number old n) (reads new n) (images new n) (since new n) (number new n)
-  pub files_are : files new n ≡ files old n
+pub record SameAt {H : Type 0} (folder : H → Folder) (images : H → DiskName → Image → Type 0) (since : H → DiskName → ℕ → Image → Type 0)
+    (number : H → DiskName → ℕ) (old new : H) (n : DiskName) : Type 0 where
+  pub disk : SameDisk ((folder old).disks n) (images old n) (since old n) (number old n) ((folder new).disks n) (images new n) (since new n) (number new n)
+  pub files_are : (folder new).files n ≡ (folder old).files n

@@ -1,7 +1,8 @@
 -- Steps of a host in memory.
 use Rattle.std.specs.Prelude.{ℕ, ◌≡◌, ◌+◌, max, List, Some}
+use Rattle.disk_model.specs.Capacities.{unused}
 use Rattle.disk_model.specs.Images.{Only, SameElsewhere}
-use Rattle.disk_model.specs.MemoryDisk.{mem_calls, mem_file_count, mem_images, mem_name, mem_reads, mem_states}
+use Rattle.disk_model.specs.MemoryDisk.{mem_calls, mem_capacity, mem_file_count, mem_images, mem_name, mem_reads, mem_states}
 use Rattle.disk_model.specs.Picks.{IsPicked}
 use Rattle.disk_model.specs.Slots.{put_slot, slot_at}
 use Rattle.disk_model.specs.declared.memory_disk.MemDisk.{MemDisk}
@@ -17,6 +18,7 @@ pub record IsPlaced (file : ℕ) (bytes : List ℕ) (old new : MemDisk) : Type 0
   pub placed : mem_reads new file ≡ bytes
   pub one_image : Only file (mem_reads new) (mem_images new)
   pub elsewhere : SameElsewhere file (mem_reads old) (mem_reads new)
+  pub capacity : mem_capacity new ≡ mem_capacity old
 
 -- the disk is as a crash left it
 pub record IsCrashed (pick : Pick) (old new : MemDisk) : Type 0 where
@@ -27,6 +29,7 @@ pub record IsCrashed (pick : Pick) (old new : MemDisk) : Type 0 where
   pub picked : (f : ℕ) → IsPicked pick (mem_states old f) (mem_reads new f)
   pub newest : pick ≡ New → (f : ℕ) → mem_reads new f ≡ mem_reads old f
   pub calls : mem_calls new ≡ 0
+  pub capacity : mem_capacity new ≡ unused (mem_capacity old)
 
 -- what stood under the name was there, and is changed
 pub record ChangesHeld (n : DiskName) (step : MemDisk → MemDisk → Type 0) (old new : List (Slot MemDisk)) : Type 0 where

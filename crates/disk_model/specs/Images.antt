@@ -33,6 +33,11 @@ pub record TornCut (file size : ℕ) (old new : Image) : Type 0 where
   pub no_longer : length (new file) ≤ length (old file)
   pub elsewhere : SameElsewhere file old new
 
+-- a call that may have made the file: no count of files but these
+pub record MayMake (file old new : ℕ) : Type 0 where
+  pub no_fewer : old ≤ new
+  pub no_more : new ≤ max old (file + 1)
+
 -- each new image is an old one after a step
 abbrev pub Follows : (Image → Image → Type 0) → (Image → Type 0) → (Image → Type 0) → Type 0
 Follows step old new = (c : Image) → new c → (d : Image) × old d × step d c

@@ -1,6 +1,11 @@
+-- HostSteps, `filled` of Cells, Picks from `torn_write` on, and Traces from `used_by` on stand in contracts of private
+-- functions alone: they say how the forms in memory do their work, and claim nothing to a caller.
+-- Formed, MemoryLaws and HostLaws prove the laws of the traits for those forms; they stand here since the forms name them.
 pub mod Arms
+pub mod Capacities
 pub mod Cells
 pub mod FileStates
+pub mod Folders
 pub mod Formed
 pub mod Handles
 pub mod Held

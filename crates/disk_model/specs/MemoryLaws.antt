@@ -1,12 +1,15 @@
 -- The laws of a disk in memory.
-use Rattle.std.specs.Prelude.{ℕ, ◌≤◌, List}
+use Rattle.std.specs.Prelude.{ℕ, ◌≡◌, ◌≤◌, List, []}
 use Rattle.std.proofs.Common.{arith, subst, sym}
 use Rattle.samza_model.specs.Files.{Image}
 use Rattle.disk_model.specs.FileStates.{FileState, IsFileImage}
 use Rattle.disk_model.specs.Formed.{formed, now_is_image, then_now}
-use Rattle.disk_model.specs.MemoryDisk.{mem_calls, mem_images, mem_images_since, mem_reads}
+use Rattle.disk_model.specs.MemoryDisk.{mem_calls, mem_images, mem_file_count, mem_images_since, mem_reads}
 use Rattle.disk_model.specs.TraceWords.{count_of, now_of}
 use Rattle.disk_model.specs.declared.memory_disk.MemDisk.{MemDisk}
+
+pub mem_none_above : (d : MemDisk) (f : ℕ) → Unit {0} → mem_file_count d ≤ f → mem_reads d f ≡ []
+mem_none_above d f told le = d.trace.unwritten f le
 
 pub mem_read_is_image : (d : MemDisk) → Unit {0} → mem_images d (mem_reads d)
 mem_read_is_image d told f =

@@ -1,6 +1,6 @@
 -- The meanings of a shelf in memory.
-use Rattle.std.specs.Prelude.{ℕ, ◌-◌, Bool, List}
-use Rattle.disk_model.specs.Tallies.{fails_at}
+use Rattle.std.specs.Prelude.{ℕ, Bool, List}
+use Rattle.disk_model.specs.Tallies.{SameFailing, tally_fails}
 use Rattle.disk_model.specs.declared.memory_shelf.MemShelf.{MemShelf}
 use Rattle.disk_model.specs.declared.names.DiskName.{DiskName}
 
@@ -21,4 +21,8 @@ shelf_calls s = s.tally.calls
 
 -- a call with this number is told to fail
 abbrev pub shelf_fails : MemShelf → ℕ → Bool
-shelf_fails s number = fails_at s.tally.fail_at.items s.tally.stop_after (number - s.tally.from)
+shelf_fails s number = tally_fails s.tally number
+
+-- the same calls are told to fail
+abbrev pub SameShelfTold : MemShelf → MemShelf → Type 0
+SameShelfTold old new = SameFailing old.tally new.tally

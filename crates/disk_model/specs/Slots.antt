@@ -1,5 +1,5 @@
 -- What is held by name.
-use Rattle.std.specs.Prelude.{ℕ, ◌≡◌, ◌<◌, zero, suc, Bool, false, if◌then◌else◌, List, [], ◌∷◌, length, Option, None, Some, slice_get, slice_set}
+use Rattle.std.specs.Prelude.{ℕ, ◌≡◌, ◌<◌, if◌then◌else◌, List, [], ◌∷◌, length, Option, None, Some, slice_get, slice_set}
 use Rattle.samza_model.specs.Files.{Image}
 use Rattle.disk_model.specs.Handles.{same_name}
 use Rattle.disk_model.specs.declared.names.DiskName.{DiskName}
@@ -14,12 +14,6 @@ slot_at (s ∷ ss) n = if same_name s.name n then Some s else slot_at ss n
 abbrev pub put_slot : {T : Type 0} → List (Slot T) → DiskName → Slot T → List (Slot T)
 put_slot [] n t = []
 put_slot (s ∷ ss) n t = if same_name s.name n then t ∷ ss else s ∷ put_slot ss n t
-
--- whether the slot at a place has this name
-abbrev pub named_at : {T : Type 0} → List (Slot T) → DiskName → ℕ → Bool
-named_at [] n i = false
-named_at (s ∷ ss) n zero = same_name s.name n
-named_at (s ∷ ss) n (suc i) = named_at ss n i
 
 -- the first slot of this name stands at this place
 pub record IsPlace {T : Type 0} (slots : List (Slot T)) (n : DiskName) (i : ℕ) : Type 0 where
@@ -48,6 +42,11 @@ since_in since (Some t) = since t
 abbrev pub number_in : {T : Type 0} → (T → ℕ) → Option T → ℕ
 number_in number None = 0
 number_in number (Some t) = number t
+
+-- what is said of what is there, and else this
+abbrev pub or_else : {T X : Type 0} → X → (T → X) → Option T → X
+or_else x f None = x
+or_else x f (Some t) = f t
 
 abbrev pub out_held : {T : Type 0} → Option T → ℕ
 out_held None = 1

@@ -1,6 +1,7 @@
 -- What is said of the files of a disk in memory.
 use Rattle.std.specs.Prelude.{ℕ, ◌≡◌, ◌≢◌, ◌+◌, ◌&&◌, Bool, length, nat_le, nat_lt, take}
 use Rattle.samza_model.specs.Files.{Image}
+use Rattle.disk_model.specs.Capacities.{Capacity}
 use Rattle.disk_model.specs.FileStates.{FileState}
 use Rattle.disk_model.specs.Traces.{bytes_at, state_of}
 use Rattle.disk_model.specs.declared.traces.Trace.{Trace}
@@ -8,6 +9,9 @@ use Rattle.disk_model.specs.declared.traces.Trace.{Trace}
 -- the number of entries
 abbrev pub count_of : Trace → ℕ
 count_of t = length t.noted.items
+
+abbrev pub capacity_of : Trace → Capacity
+capacity_of t = record { files = length t.files.items; room = t.room; calls = t.limit; used = length t.written.items }
 
 abbrev pub bytes_of : Trace → Image
 bytes_of t = bytes_at t.files.items

@@ -1,8 +1,8 @@
 -- The files of a disk in memory, from what they were at the start and from the record of its calls.
-use Rattle.std.specs.Prelude.{ℕ, ◌+◌, ◌≤◌, Bool, true, false, ◌==◌, if◌then◌else◌, List, get_or, take}
+use Rattle.std.specs.Prelude.{ℕ, ◌+◌, Bool, true, false, ◌==◌, if◌then◌else◌, List, get_or}
 use Rattle.samza_model.specs.Files.{Image}
 use Rattle.disk_model.specs.Held.{Held, no_bytes}
-use Rattle.disk_model.specs.FileStates.{FileState, IsImage, at_rest, replayed}
+use Rattle.disk_model.specs.FileStates.{FileState, at_rest, replayed}
 use Rattle.disk_model.specs.declared.traces.Entry.{Entry}
 use Rattle.disk_model.specs.declared.traces.Entry.TheVariants.{Quiet, Wrote, Shortened, Synced}
 
@@ -13,10 +13,6 @@ bytes_at files f = (get_or files f no_bytes).bytes
 -- each file after these calls
 abbrev pub state_of : List Held → List Entry → List ℕ → ℕ → FileState
 state_of start noted written f = replayed noted written f (at_rest (bytes_at start f))
-
--- an image of the disk as it was after some number of calls from k on
-abbrev pub ImageSince : List Held → List Entry → List ℕ → ℕ → ℕ → Image → Type 0
-ImageSince start noted written calls k c = (j : ℕ) × (k ≤ j) × (j ≤ calls) × IsImage (state_of start (take j noted) written) c
 
 -- how many of the written bytes there are up to those of this call
 abbrev pub used_by : Entry → ℕ

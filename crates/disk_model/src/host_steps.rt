@@ -1,7 +1,7 @@
 // Small steps of a host in memory.
-ghost use Rattle.std.specs.Prelude.{◌≡◌, ◌-◌, ◌^◌, ◌+◌, ℕ, Option, Some, None, IfOk, OnOk, OnErr, MatchOption, min, max};
+ghost use Rattle.std.specs.Prelude.{◌≡◌, ◌-◌, ◌^◌, ◌+◌, ℕ, Option, Some, None, length, IfOk, MatchOption, min, max};
 ghost use Rattle.disk_model.specs.Images.{Only, SameElsewhere};
-ghost use Rattle.disk_model.specs.MemoryDisk.{mem_name, mem_reads, mem_images, mem_file_count, mem_calls, mem_fails, mem_faults, IsSameDisk};
+ghost use Rattle.disk_model.specs.MemoryDisk.{mem_name, mem_reads, mem_images, mem_file_count, mem_calls, mem_capacity, mem_fails, mem_faults, CanPlace, IsSameDisk};
 ghost use Rattle.disk_model.specs.MemoryShelf.{shelf_name, shelf_file, shelf_bytes, shelf_calls, shelf_fails, shelf_faults};
 ghost use Rattle.disk_model.specs.Slots.{slot_at, held_in, reads_in, number_in, text_in, ChangesSlot};
 ghost use Rattle.disk_model.specs.Tallies.{fails_at};
@@ -83,7 +83,9 @@ pub(crate) fn new_shelf(
 pub(crate) fn as_handle(disk: MemDisk, failing: Failing) -> MemDisk
     ensures disk { IsSameDisk disk result }
     ensures name { mem_name result ≡ mem_name disk }
+    ensures files { mem_file_count result ≡ mem_file_count disk }
     ensures faults { mem_faults result ≡ 0 }
+    ensures capacity { mem_capacity result ≡ mem_capacity disk }
     ensures fails { (number : ℕ) → mem_fails result number ≡ fails_at failing.fail_at.items failing.stop_after (number - mem_calls disk) }
 {
     let mut disk = disk;
@@ -92,29 +94,21 @@ pub(crate) fn as_handle(disk: MemDisk, failing: Failing) -> MemDisk
     disk
 }
 
-/// Puts bytes in the place of a file of what stands under a name.
-pub(crate) fn place_held(
-    slots: &mut [Slot<MemDisk>],
-    name: &DiskName,
-    file: u32,
-    bytes: &[u8],
-) -> Result<(), NoMemory>
-    ensures placed { OnOk result (ChangesHeld name.now (IsPlaced file bytes.now) slots.old slots.new) }
-    ensures refused { OnErr result (slots.new ≡ slots.old) }
+/// Puts bytes in the place of a file of the disk under a name, if it is there and not out.
+pub(crate) fn place_held(slots: &mut [Slot<MemDisk>], name: &DiskName, file: u32, bytes: &[u8])
+    requires fits { (d : MemDisk) → held_in (slot_at slots.old name.now) ≡ Some d → CanPlace d file (length bytes.now) }
+    ensures placed { (d : MemDisk) → held_in (slot_at slots.old name.now) ≡ Some d → ChangesHeld name.now (IsPlaced file bytes.now) slots.old slots.new }
+    ensures absent { held_in (slot_at slots.old name.now) ≡ None → slots.new ≡ slots.old }
 {
     let Some(place) = place_of(slots, name) else {
-        return Err(NoMemory);
+        return;
     };
     let slot = &mut slots[place];
     let Some(mut disk) = slot.held.take() else {
-        return Err(NoMemory);
+        return;
     };
-    let fits = disk.can_place(file, bytes.len());
-    if fits {
-        disk.place(file, bytes);
-    }
+    disk.place(file, bytes);
     slot.held = Some(disk);
-    if fits { Ok(()) } else { Err(NoMemory) }
 }
 
 /// Puts what a crash leaves of the disk under a name in its place, if it is there and not out.

@@ -23,7 +23,7 @@ impl MemDisk {
     ghost use Rattle.std.specs.Prelude.{◌≡◌, ◌↔◌, ◌+◌, ◌-◌, ℕ, [], IfOk, IsTrue, false, length, max};
     ghost use Rattle.samza_model.specs.Files.{Image};
     ghost use Rattle.disk_model.specs.Images.{Only, SameElsewhere};
-    ghost use Rattle.disk_model.specs.MemoryDisk.{mem_file_count, mem_size, mem_room, mem_limit, mem_fails, mem_states, CanPlace, IsSameDisk};
+    ghost use Rattle.disk_model.specs.MemoryDisk.{mem_file_count, mem_size, mem_room, mem_limit, mem_capacity, mem_used, mem_fails, mem_states, SameTold, CanPlace, IsSameDisk};
     ghost use Rattle.disk_model.specs.Picks.{IsPicked};
     ghost use Rattle.disk_model.specs.Tallies.{fails_at};
 
@@ -52,6 +52,7 @@ impl MemDisk {
         ensures size { IfOk result (λ d. mem_size d ≡ files) }
         ensures room { IfOk result (λ d. mem_room d ≡ room) }
         ensures limit { IfOk result (λ d. mem_limit d ≡ calls) }
+        ensures capacity { IfOk result (λ d. mem_capacity d ≡ record { files = files; room = room; calls = calls; used = 0 }) }
         ensures fails { IfOk result (λ d. (number : ℕ) → mem_fails d number ≡ fails_at fail_at.items stop_after number) }
     {
         Ok(MemDisk {
@@ -81,6 +82,7 @@ impl MemDisk {
         ensures name { ⟦<MemDisk as Disk>⟧.name self.new ≡ ⟦<MemDisk as Disk>⟧.name self.old }
         ensures files { mem_file_count self.new ≡ mem_file_count self.old }
         ensures faults { ⟦<MemDisk as Disk>⟧.fault_count self.new ≡ ⟦<MemDisk as Disk>⟧.fault_count self.old }
+        ensures capacity { mem_capacity self.new ≡ mem_capacity self.old }
         ensures fails { (number : ℕ) → mem_fails self.new number ≡ fails_at fail_at.items stop_after (number - ⟦<MemDisk as Disk>⟧.call_number self.old) }
     {
         self.tally.from = self.tally.calls;
@@ -103,6 +105,7 @@ impl MemDisk {
         ensures size { mem_size result ≡ mem_size self }
         ensures room { mem_room result ≡ mem_room self }
         ensures limit { mem_limit result ≡ mem_limit self }
+        ensures used { mem_used result ≡ 0 }
     {
         let mut disk = self;
         disk.trace.crash(pick);
@@ -116,6 +119,7 @@ impl MemDisk {
         ensures name { ⟦<MemDisk as Disk>⟧.name self.new ≡ ⟦<MemDisk as Disk>⟧.name self.old }
         ensures files { mem_file_count self.new ≡ mem_file_count self.old }
         ensures faults { ⟦<MemDisk as Disk>⟧.fault_count self.new ≡ 0 }
+        ensures told { SameTold self.old self.new }
     {
         self.tally.faults = 0;
     }
@@ -136,6 +140,7 @@ impl MemDisk {
         ensures one_image { Only file (⟦<MemDisk as Disk>⟧.reads self.new) (⟦<MemDisk as Disk>⟧.images self.new) }
         ensures elsewhere { SameElsewhere file (⟦<MemDisk as Disk>⟧.reads self.old) (⟦<MemDisk as Disk>⟧.reads self.new) }
         ensures calls { ⟦<MemDisk as Disk>⟧.call_number self.new ≡ ⟦<MemDisk as Disk>⟧.call_number self.old }
+        ensures capacity { mem_capacity self.new ≡ mem_capacity self.old }
     {
         self.trace.place(file as usize, bytes);
     }
@@ -149,17 +154,19 @@ impl MemDisk {
 }
 
 impl Disk for MemDisk {
-    ghost use Rattle.std.specs.Prelude.{◌≡◌, ◌+◌, ◌-◌, ◌^◌, ◌≤◌, ◌||◌, IfOk, OnErr, OnOk, drop, is_err, length, not, take};
+    ghost use Rattle.std.specs.Prelude.{◌≡◌, ◌+◌, ◌-◌, ◌^◌, ◌≤◌, ◌||◌, IfOk, OnErr, OnOk, drop, is_err, length, max, not, take};
     ghost use Rattle.samza_model.specs.Counters.{next_number};
-    ghost use Rattle.disk_model.specs.Images.{Follows, HasCause, Joins, Keeps, Only, Shortened, Stays, TornCut, TornWrite, Written};
-    ghost use Rattle.disk_model.specs.MemoryDisk.{mem_name, mem_reads, mem_images, mem_images_since, mem_calls, mem_faults, mem_fails, can_write, is_spent};
-    ghost use Rattle.disk_model.specs.MemoryLaws.{mem_read_is_image, mem_counts_now, mem_only_now};
+    ghost use Rattle.disk_model.specs.Images.{Follows, HasCause, Joins, Keeps, MayMake, Only, Shortened, Stays, TornCut, TornWrite, Written};
+    ghost use Rattle.disk_model.specs.MemoryDisk.{mem_file_count, mem_name, mem_reads, mem_images, mem_images_since, mem_calls, mem_faults, mem_fails, mem_capacity, can_write, is_spent, after_write, SameFails, SameTold};
+    ghost use Rattle.disk_model.specs.MemoryLaws.{mem_none_above, mem_read_is_image, mem_counts_now, mem_only_now};
 
     ghost tells = { Unit {0} };
 
     ghost name = { mem_name };
 
     ghost reads = { mem_reads };
+
+    ghost file_count = { mem_file_count };
 
     ghost images = { mem_images };
 
@@ -172,6 +179,7 @@ impl Disk for MemDisk {
     fn size(&mut self, file: u32) -> Result<u64, DiskFault>
         ensures size { IfOk result (λ n. n ≡ length (mem_reads self.old file)) }
         ensures reads { mem_reads self.new ≡ mem_reads self.old }
+        ensures there { mem_file_count self.new ≡ mem_file_count self.old }
         ensures crash { Keeps (mem_images self.old) (mem_images self.new) }
         ensures none_lost { Keeps (mem_images self.new) (mem_images self.old) }
         ensures time { Joins (mem_calls self.old) (mem_images_since self.old) (mem_images_since self.new) (mem_images self.new) }
@@ -179,6 +187,7 @@ impl Disk for MemDisk {
         ensures cause { HasCause (mem_calls self.old) (mem_faults self.old) (mem_faults self.new) result }
         ensures name { mem_name self.new ≡ mem_name self.old }
         ensures fails { is_err result ≡ (mem_fails self.old (mem_calls self.old) || is_spent self.old) }
+        ensures told { SameTold self.old self.new }
     {
         let failing = self.tally.begin();
         let noted = self.trace.note(Entry::Quiet);
@@ -190,6 +199,7 @@ impl Disk for MemDisk {
         requires { at + length into.old ≤ length (mem_reads self.old file) }
         ensures bytes { OnOk result (into.new ≡ take (length into.old) (drop at (mem_reads self.old file))) }
         ensures reads { mem_reads self.new ≡ mem_reads self.old }
+        ensures there { mem_file_count self.new ≡ mem_file_count self.old }
         ensures crash { Keeps (mem_images self.old) (mem_images self.new) }
         ensures none_lost { Keeps (mem_images self.new) (mem_images self.old) }
         ensures time { Joins (mem_calls self.old) (mem_images_since self.old) (mem_images_since self.new) (mem_images self.new) }
@@ -197,6 +207,7 @@ impl Disk for MemDisk {
         ensures cause { HasCause (mem_calls self.old) (mem_faults self.old) (mem_faults self.new) result }
         ensures name { mem_name self.new ≡ mem_name self.old }
         ensures fails { is_err result ≡ (mem_fails self.old (mem_calls self.old) || is_spent self.old) }
+        ensures told { SameTold self.old self.new }
     {
         let failing = self.tally.begin();
         let noted = self.trace.note(Entry::Quiet);
@@ -207,6 +218,9 @@ impl Disk for MemDisk {
     fn write_at(&mut self, file: u32, at: u64, bytes: &[u8]) -> Result<(), DiskFault>
         requires { at ≤ length (mem_reads self.old file) }
         ensures written { OnOk result (Written file at bytes.now (mem_reads self.old) (mem_reads self.new)) }
+        ensures there { MayMake file (mem_file_count self.old) (mem_file_count self.new) }
+        ensures made { OnOk result (mem_file_count self.new ≡ max (mem_file_count self.old) (file + 1)) }
+        ensures unmade { mem_calls self.old ≡ 2 ^ 64 - 1 → mem_file_count self.new ≡ mem_file_count self.old }
         ensures crash { Follows (TornWrite file at (length bytes.now)) (mem_images self.old) (mem_images self.new) }
         ensures spent { mem_calls self.old ≡ 2 ^ 64 - 1 → Stays (mem_reads self.old) (mem_reads self.new) (mem_images self.old) (mem_images self.new) }
         ensures time { Joins (mem_calls self.old) (mem_images_since self.old) (mem_images_since self.new) (mem_images self.new) }
@@ -214,6 +228,8 @@ impl Disk for MemDisk {
         ensures cause { HasCause (mem_calls self.old) (mem_faults self.old) (mem_faults self.new) result }
         ensures name { mem_name self.new ≡ mem_name self.old }
         ensures fails { is_err result ≡ (mem_fails self.old (mem_calls self.old) || is_spent self.old || not (can_write self.old file at (length bytes.now))) }
+        ensures capacity { mem_capacity self.new ≡ after_write self.old file at (length bytes.now) }
+        ensures told { SameFails self.old self.new }
     {
         let failing = self.tally.begin();
         let made = self.trace.write(file, at as usize, bytes);
@@ -223,6 +239,7 @@ impl Disk for MemDisk {
     fn cut(&mut self, file: u32, size: u64) -> Result<(), DiskFault>
         requires { size ≤ length (mem_reads self.old file) }
         ensures cut { OnOk result (Shortened file size (mem_reads self.old) (mem_reads self.new)) }
+        ensures there { mem_file_count self.new ≡ mem_file_count self.old }
         ensures crash { Follows (TornCut file size) (mem_images self.old) (mem_images self.new) }
         ensures spent { mem_calls self.old ≡ 2 ^ 64 - 1 → Stays (mem_reads self.old) (mem_reads self.new) (mem_images self.old) (mem_images self.new) }
         ensures time { Joins (mem_calls self.old) (mem_images_since self.old) (mem_images_since self.new) (mem_images self.new) }
@@ -230,6 +247,7 @@ impl Disk for MemDisk {
         ensures cause { HasCause (mem_calls self.old) (mem_faults self.old) (mem_faults self.new) result }
         ensures name { mem_name self.new ≡ mem_name self.old }
         ensures fails { is_err result ≡ (mem_fails self.old (mem_calls self.old) || is_spent self.old) }
+        ensures told { SameTold self.old self.new }
     {
         let failing = self.tally.begin();
         let made = self.trace.cut(file, size as usize);
@@ -239,6 +257,7 @@ impl Disk for MemDisk {
     fn sync(&mut self, file: u32) -> Result<(), DiskFault>
         ensures durable { OnOk result (Only file (mem_reads self.old) (mem_images self.new)) }
         ensures reads { mem_reads self.new ≡ mem_reads self.old }
+        ensures there { mem_file_count self.new ≡ mem_file_count self.old }
         ensures crash { Keeps (mem_images self.old) (mem_images self.new) }
         ensures none_lost { OnErr result (Keeps (mem_images self.new) (mem_images self.old)) }
         ensures time { Joins (mem_calls self.old) (mem_images_since self.old) (mem_images_since self.new) (mem_images self.new) }
@@ -246,6 +265,7 @@ impl Disk for MemDisk {
         ensures cause { HasCause (mem_calls self.old) (mem_faults self.old) (mem_faults self.new) result }
         ensures name { mem_name self.new ≡ mem_name self.old }
         ensures fails { is_err result ≡ (mem_fails self.old (mem_calls self.old) || is_spent self.old) }
+        ensures told { SameTold self.old self.new }
     {
         let failing = self.tally.begin();
         let synced = self.trace.note(sync_entry(failing, file));
@@ -259,6 +279,8 @@ impl Disk for MemDisk {
     fn faults(&self) -> u64 {
         self.tally.faults
     }
+
+    ghost none_above = { mem_none_above };
 
     ghost read_is_image = { mem_read_is_image };
 

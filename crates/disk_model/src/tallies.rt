@@ -1,7 +1,7 @@
 // Counts of calls and of faults, and which calls are to fail.
 ghost use Rattle.std.specs.Prelude.{◌≡◌, ◌-◌, ℕ, Bool, true, false, if◌then◌else◌, ◌||◌, not};
 ghost use Rattle.samza_model.specs.Counters.{next_number, added};
-ghost use Rattle.disk_model.specs.Tallies.{fails_at};
+ghost use Rattle.disk_model.specs.Tallies.{fails_at, SameFailing};
 
 use crate::DiskFault;
 
@@ -35,6 +35,7 @@ impl Tally {
         ensures fails { result ≡ fails_at self.old.fail_at.items self.old.stop_after (self.old.calls - self.old.from) }
         ensures calls { self.new.calls ≡ next_number self.old.calls }
         ensures faults { self.new.faults ≡ self.old.faults }
+        ensures told { SameFailing self.old self.new }
     {
         let fails = self.is_failing();
         self.calls = self.calls.saturating_add(1);
@@ -46,6 +47,7 @@ impl Tally {
         ensures faults { self.new.faults ≡ (if result then next_number self.old.faults else self.old.faults) }
         ensures calls { self.new.calls ≡ next_number self.old.calls }
         ensures fails { result ≡ fails_at self.old.fail_at.items self.old.stop_after (self.old.calls - self.old.from) }
+        ensures told { SameFailing self.old self.new }
     {
         let fails = self.begin();
         if fails {
@@ -70,6 +72,8 @@ impl Tally {
     /// Adds another's faults.
     pub(crate) fn add_faults(&mut self, more: u64)
         ensures faults { self.new.faults ≡ added self.old.faults more }
+        ensures calls { self.new.calls ≡ self.old.calls }
+        ensures told { SameFailing self.old self.new }
     {
         self.faults = self.faults.saturating_add(more);
     }
@@ -84,6 +88,7 @@ impl Tally {
         ensures answer { result ≡ (if failing || not made then Err DiskFault.Failed else Ok value) }
         ensures faults { self.new.faults ≡ (if failing || not made then next_number self.old.faults else self.old.faults) }
         ensures calls { self.new.calls ≡ self.old.calls }
+        ensures told { SameFailing self.old self.new }
     {
         if failing || !made {
             self.faults = self.faults.saturating_add(1);

@@ -58,11 +58,12 @@ pub(crate) struct Trace {
 }
 
 impl Trace {
-    ghost use Rattle.std.specs.Prelude.{◌≡◌, ◌+◌, ◌-◌, ◌<◌, ◌≤◌, ◌^◌, ℕ, List, IfOk, IsTrue, ◌↔◌, [], ◌∷◌, ◌++◌, length, take, drop, get_or, min, max, true, false};
+    ghost use Rattle.std.specs.Prelude.{◌≡◌, ◌+◌, ◌-◌, ◌<◌, ◌≤◌, ◌^◌, ℕ, List, IfOk, IsTrue, ◌↔◌, [], ◌∷◌, ◌++◌, length, take, drop, get_or, min, max, if◌then◌else◌, true, false};
+    ghost use Rattle.disk_model.specs.Capacities.{with_used};
     ghost use Rattle.disk_model.specs.FileStates.{after, at_rest, with_written, with_cut};
     ghost use Rattle.disk_model.specs.Picks.{IsCrashOf};
     ghost use Rattle.disk_model.specs.Traces.{is_still};
-    ghost use Rattle.disk_model.specs.TraceWords.{count_of, now_of, then_of, bytes_of, has_room_in, AtFile};
+    ghost use Rattle.disk_model.specs.TraceWords.{capacity_of, count_of, now_of, then_of, bytes_of, has_room_in, AtFile};
 
     /// Empty files, and all the memory that the calls will need.
     pub(crate) fn new(
@@ -76,6 +77,8 @@ impl Trace {
         ensures empty { IfOk result (λ t. (f : ℕ) → now_of t f ≡ at_rest []) }
         ensures there { IfOk result (λ t. t.there ≡ 0) }
         ensures room { IfOk result (λ t. t.room ≡ room) }
+        ensures used { IfOk result (λ t. length t.written.items ≡ 0) }
+        ensures capacity { IfOk result (λ t. capacity_of t ≡ record { files = files; room = room; calls = calls; used = 0 }) }
         ensures files { IfOk result (λ t. length t.files.items ≡ files) }
     {
         Ok(Trace {
@@ -116,6 +119,8 @@ impl Trace {
         ensures noted { result ≡ true → (f : ℕ) → now_of self.new f ≡ after [] f entry (now_of self.old f) }
         ensures spared { result ≡ false → (f : ℕ) → now_of self.new f ≡ now_of self.old f }
         ensures bytes { (f : ℕ) → bytes_of self.new f ≡ bytes_of self.old f }
+        ensures capacity { capacity_of self.new ≡ capacity_of self.old }
+        ensures there { self.new.there ≡ self.old.there }
     {
         if self.is_full() {
             return false;
@@ -142,6 +147,8 @@ impl Trace {
         ensures count { count_of self.new ≡ min (count_of self.old + 1) self.old.limit }
         ensures past { (j f : ℕ) → (count_of self.old < self.old.limit → j ≤ count_of self.old) → then_of self.new j f ≡ then_of self.old j f }
         ensures made { result ≡ true → AtFile file (with_written at bytes.now) (now_of self.old) (now_of self.new) }
+        ensures capacity { capacity_of self.new ≡ (if result then with_used (length bytes.now) (capacity_of self.old) else capacity_of self.old) }
+        ensures there { self.new.there ≡ (if result then max self.old.there (file + 1) else self.old.there) }
         ensures spared { result ≡ false → (f : ℕ) → now_of self.new f ≡ now_of self.old f }
     {
         if self.is_full() || !self.has_room(file, at, bytes.len()) {
@@ -160,6 +167,8 @@ impl Trace {
         ensures limit { self.new.limit ≡ self.old.limit }
         ensures count { count_of self.new ≡ count_of self.old + 1 }
         ensures past { (j f : ℕ) → j ≤ count_of self.old → then_of self.new j f ≡ then_of self.old j f }
+        ensures capacity { capacity_of self.new ≡ with_used (length bytes.now) (capacity_of self.old) }
+        ensures known { self.new.there ≡ max self.old.there (file + 1) }
         ensures made { AtFile file (with_written at bytes.now) (now_of self.old) (now_of self.new) }
     {
         let from = self.written.len();
@@ -185,6 +194,8 @@ impl Trace {
         ensures count { count_of self.new ≡ min (count_of self.old + 1) self.old.limit }
         ensures past { (j f : ℕ) → (count_of self.old < self.old.limit → j ≤ count_of self.old) → then_of self.new j f ≡ then_of self.old j f }
         ensures made { result ≡ true → AtFile file (with_cut size) (now_of self.old) (now_of self.new) }
+        ensures capacity { capacity_of self.new ≡ capacity_of self.old }
+        ensures there { self.new.there ≡ self.old.there }
         ensures spared { result ≡ false → (f : ℕ) → now_of self.new f ≡ now_of self.old f }
     {
         if self.is_full() {
@@ -202,6 +213,7 @@ impl Trace {
         ensures count { count_of self.new ≡ count_of self.old }
         ensures limit { self.new.limit ≡ self.old.limit }
         ensures placed { AtFile file (λ _. at_rest bytes.now) (now_of self.old) (now_of self.new) }
+        ensures capacity { capacity_of self.new ≡ capacity_of self.old }
         ensures known { self.new.there ≡ max self.old.there (file + 1) }
     {
         forget_all(&mut self.noted, file);
@@ -218,6 +230,7 @@ impl Trace {
         ensures limit { self.new.limit ≡ self.old.limit }
         ensures room { self.new.room ≡ self.old.room }
         ensures files { length self.new.files.items ≡ length self.old.files.items }
+        ensures used { length self.new.written.items ≡ 0 }
         ensures there { self.new.there ≡ self.old.there }
     {
         copy_all(&mut self.files, self.start.as_slice());

@@ -1,38 +1,28 @@
 // Where a folder's files lie.
-ghost use Rattle.std.specs.Prelude.{◌≡◌, ◌≢◌, ◌++◌, ◌∷◌, [], ◌⊎◌, ◌<◌, ◌^◌, ℕ, IfOk, MatchOption, Some, string_bytes};
-ghost use Rattle.file_host.specs.Places.{file_name, task_folder, stream_folder, disk_folder};
+ghost use Rattle.std.specs.Prelude.{◌≡◌, ◌≢◌, ◌++◌, ◌∷◌, [], ◌<◌, ◌^◌, ℕ, true, false, map, IfOk, MatchOption, Some, string_bytes};
+ghost use Rattle.file_host.specs.Places.{file_name, task_folder, stream_folder, system_folder, disk_folder, is_whole, path_of_word, entered_folder, folders_above};
 
-use disk_model::{DiskName, HostFault};
+use disk_model::DiskName;
 use samza_model::Bin;
 use std::alloc::Global;
-use std::io::{Error, ErrorKind};
+use std::io::{Error, ErrorKind, Result};
 
-/// Room for a file's name in its folder: a number of up to 10 digits and `.log`.
-const FILE_NAME_ROOM: usize = 16;
-
-/// What the host answers to an error of the system's.
-pub(crate) fn fault_of(error: &Error) -> HostFault {
-    if error.kind() == ErrorKind::OutOfMemory {
-        HostFault::NoMemory
-    } else {
-        HostFault::Device
-    }
-}
-
-/// A folder's path as it was given, with a slash behind it. The empty path is where the process runs.
-pub(crate) fn folder_path(alloc: Global, folder: &str) -> Result<String, HostFault>
-    ensures { IfOk result (λ p. (string_bytes p ≡ folder.now) ⊎ (string_bytes p ≡ folder.now ++ 47 ∷ [])) }
+/// The path of a folder by the word that names it: with one slash behind it, unless it ends in one. The empty word is where
+/// the process runs.
+pub(crate) fn folder_path(alloc: Global, folder: &str) -> Result<String>
+    ensures whole { is_whole folder.now ≡ true → IfOk result (λ p. string_bytes p ≡ folder.now) }
+    ensures slashed { is_whole folder.now ≡ false → IfOk result (λ p. string_bytes p ≡ folder.now ++ 47 ∷ []) }
+    ensures path { IfOk result (λ p. string_bytes p ≡ path_of_word folder.now) }
 {
-    let mut path = String::new(alloc);
-    append(&mut path, folder)?;
-    if !folder.is_empty() && !folder.ends_with('/') {
-        append(&mut path, "/")?;
+    if folder.is_empty() || folder.ends_with('/') {
+        path_in(alloc, folder, "")
+    } else {
+        path_in(alloc, folder, "/")
     }
-    Ok(path)
 }
 
 /// The path of a file in a folder.
-pub(crate) fn path_in(alloc: Global, folder: &str, file: &str) -> Result<String, HostFault>
+pub(crate) fn path_in(alloc: Global, folder: &str, file: &str) -> Result<String>
     ensures { IfOk result (λ p. string_bytes p ≡ folder.now ++ file.now) }
 {
     let mut path = String::new(alloc);
@@ -42,7 +32,7 @@ pub(crate) fn path_in(alloc: Global, folder: &str, file: &str) -> Result<String,
 }
 
 /// The folder of a disk, with a slash behind it.
-pub(crate) fn disk_path(alloc: Global, folder: &str, name: &DiskName) -> Result<String, HostFault>
+pub(crate) fn disk_path(alloc: Global, folder: &str, name: &DiskName) -> Result<String>
     ensures { IfOk result (λ p. string_bytes p ≡ disk_folder folder.now name.now) }
 {
     match name {
@@ -51,66 +41,92 @@ pub(crate) fn disk_path(alloc: Global, folder: &str, name: &DiskName) -> Result<
     }
 }
 
-fn task_path(alloc: Global, folder: &str, task: u32) -> Result<String, HostFault>
+fn task_path(alloc: Global, folder: &str, task: u32) -> Result<String>
     ensures { IfOk result (λ p. string_bytes p ≡ task_folder folder.now task) }
 {
     let mut path = path_in(alloc, folder, "tasks/")?;
     match write!(path, "{task}/") {
         Ok(()) => Ok(path),
-        Err(_) => Err(HostFault::NoMemory),
+        Err(_) => Err(Error::from(ErrorKind::OutOfMemory)),
     }
 }
 
 /// The folder of a stream, with a slash behind it.
-pub(crate) fn stream_path(
-    alloc: Global,
-    folder: &str,
-    system: &Bin,
-    stream: &Bin,
-) -> Result<String, HostFault>
+fn stream_path(alloc: Global, folder: &str, system: &Bin, stream: &Bin) -> Result<String>
     ensures { IfOk result (λ p. string_bytes p ≡ stream_folder folder.now system.now stream.now) }
 {
-    let mut path = path_in(alloc, folder, "streams/")?;
-    append(&mut path, folder_name(system)?)?;
-    append(&mut path, "/")?;
+    let mut path = system_path(alloc, folder, system)?;
     append(&mut path, folder_name(stream)?)?;
     append(&mut path, "/")?;
     Ok(path)
 }
 
+/// The folder of a system's streams, with a slash behind it.
+fn system_path(alloc: Global, folder: &str, system: &Bin) -> Result<String>
+    ensures { IfOk result (λ p. string_bytes p ≡ system_folder folder.now system.now) }
+{
+    let mut path = path_in(alloc, folder, "streams/")?;
+    append(&mut path, folder_name(system)?)?;
+    append(&mut path, "/")?;
+    Ok(path)
+}
+
 /// The bytes as the name of one folder. No other bytes name a folder below this one, so no device has it.
-fn folder_name(bytes: &Bin) -> Result<&str, HostFault>
+fn folder_name(bytes: &Bin) -> Result<&str>
     ensures { IfOk result (λ t. t.now ≡ bytes.now) }
 {
     match std::str::from_utf8(bytes.bytes()) {
-        Ok("" | "." | "..") => Err(HostFault::Device),
-        Ok(name) if name.contains('/') => Err(HostFault::Device),
+        Ok("" | "." | "..") => Err(no_name()),
+        Ok(name) if name.contains('/') => Err(no_name()),
         Ok(name) => Ok(name),
-        Err(_) => Err(HostFault::Device),
+        Err(_) => Err(no_name()),
+    }
+}
+
+fn no_name() -> Error {
+    Error::new(ErrorKind::InvalidFilename, "not a folder's name")
+}
+
+/// The folders above a disk's, from the one that was entered on.
+pub(crate) fn paths_above(alloc: Global, folder: &str, name: &DiskName) -> Result<Vec<String>>
+    ensures { IfOk result (λ v. map string_bytes v.items ≡ folders_above folder.now name.now) }
+{
+    let mut paths = Vec::new(alloc);
+    paths.push(entered_path(alloc, folder)?)?;
+    match name {
+        DiskName::Task(_) => paths.push(path_in(alloc, folder, "tasks/")?)?,
+        DiskName::Stream { system, .. } => {
+            paths.push(path_in(alloc, folder, "streams/")?)?;
+            paths.push(system_path(alloc, folder, system)?)?;
+        }
+    }
+    Ok(paths)
+}
+
+/// The path by which the entered folder itself is opened.
+fn entered_path(alloc: Global, folder: &str) -> Result<String>
+    ensures { IfOk result (λ p. string_bytes p ≡ entered_folder folder.now) }
+{
+    if folder.is_empty() {
+        path_in(alloc, "./", "")
+    } else {
+        path_in(alloc, folder, "")
     }
 }
 
 /// The path of a file of a disk's folder.
-pub(crate) fn file_path(alloc: Global, disk: &str, file: u32) -> Result<String, HostFault>
+pub(crate) fn file_path(alloc: Global, disk: &str, file: u32) -> Result<String>
     ensures { IfOk result (λ p. string_bytes p ≡ disk.now ++ file_name file) }
 {
     let mut path = path_in(alloc, disk, "")?;
     match write!(path, "{file}.log") {
         Ok(()) => Ok(path),
-        Err(_) => Err(HostFault::NoMemory),
-    }
-}
-
-/// An empty text with room for the path of any file of a disk's folder.
-pub(crate) fn path_room(alloc: Global, disk: &str) -> Result<String, HostFault> {
-    match String::with_capacity(alloc, disk.len().saturating_add(FILE_NAME_ROOM)) {
-        Ok(room) => Ok(room),
-        Err(_) => Err(HostFault::NoMemory),
+        Err(_) => Err(Error::from(ErrorKind::OutOfMemory)),
     }
 }
 
 /// The number of the partition whose file has this name: `<number>.log`, in decimal without leading zeros.
-pub(crate) fn partition_of(alloc: Global, file: &str) -> Result<Option<u32>, HostFault>
+pub(crate) fn partition_of(alloc: Global, file: &str) -> Result<Option<u32>>
     ensures { IfOk result (λ p. MatchOption p ((n : ℕ) → n < 2 ^ 32 → file.now ≢ file_name n) (λ n. file.now ≡ file_name n)) }
 {
     let Some(number) = number_before_end(file) else {
@@ -132,11 +148,11 @@ fn number_before_end(file: &str) -> Option<u32>
     digits.parse().ok()
 }
 
-fn append(path: &mut String, text: &str) -> Result<(), HostFault>
+fn append(path: &mut String, text: &str) -> Result<()>
     ensures { IfOk result (λ _. string_bytes path.new ≡ string_bytes path.old ++ text.now) }
 {
     match path.push_str(text) {
         Ok(()) => Ok(()),
-        Err(_) => Err(HostFault::NoMemory),
+        Err(_) => Err(Error::from(ErrorKind::OutOfMemory)),
     }
 }

@@ -1,10 +1,15 @@
 // One file of a folder, for reading.
-ghost use Rattle.std.specs.Prelude.{◌≡◌, ◌^◌, ◌≤◌, [], IsErr, IfOk, IfSome, Some};
+ghost use Rattle.std.specs.Prelude.{◌≡◌, ◌^◌, ◌≤◌, [], IsErr, IfOk, IfErr, OnOk, Ok, Some, None};
+ghost use Rattle.std.specs.Option.{option_or};
 ghost use Rattle.samza_model.specs.Counters.{next_number, Rose};
+ghost use Rattle.file_host.specs.Causes.{shelf_cause};
 
-use crate::counters::one_more;
+use crate::causes::{Cause, Failure, FileCall, causes_of};
+use crate::failures::Failures;
+use crate::system_calls::size_of;
 use disk_model::{DiskFault, DiskName, Shelf};
-use std::fs::{File, OpenFile};
+use std::fs::File;
+use std::io::{Error, ErrorKind, Result as IoResult};
 use std::os::unix::fs::FileExt;
 
 /// The greatest size of a file that a shelf shows.
@@ -16,7 +21,7 @@ pub struct FileShelf {
     opened: Option<File>,
     name: DiskName,
     file: u32,
-    faults: u64,
+    failures: Failures<Failure>,
 }
 
 impl FileShelf {
@@ -24,13 +29,13 @@ impl FileShelf {
     pub(crate) fn new(opened: Option<File>, name: DiskName, file: u32) -> Self
         ensures name { result.name ≡ name }
         ensures file { result.file ≡ file }
-        ensures fresh { result.faults ≡ 0 }
+        ensures fresh { result.failures.count ≡ 0 }
     {
         FileShelf {
             opened,
             name,
             file,
-            faults: 0,
+            failures: Failures::none(),
         }
     }
 
@@ -41,32 +46,43 @@ impl FileShelf {
         &self.name
     }
 
-    /// Counts a fault where nothing came of a call.
-    fn counted<T: Drop>(&mut self, done: Option<T>) -> Result<T, DiskFault>
-        ensures value { IfOk result (λ x. done ≡ Some x) }
-        ensures later { self.old.faults ≤ self.new.faults }
-        ensures failed { IsErr result → Rose self.old.faults self.new.faults }
+    /// How many of its calls failed, and why the first did.
+    pub(crate) fn into_failures(self) -> Failures<Cause>
+        ensures count { result.count ≡ self.failures.count }
+        ensures first { result.first ≡ shelf_cause self }
+    {
+        causes_of(self.name, self.failures)
+    }
+
+    /// Counts a fault where nothing came of a call. The first failure is kept.
+    fn counted<T: Drop>(&mut self, call: FileCall, done: IoResult<T>) -> Result<T, DiskFault>
+        ensures value { IfOk result (λ x. done ≡ Ok x) }
+        ensures later { self.old.failures.count ≤ self.new.failures.count }
+        ensures failed { IsErr result → Rose self.old.failures.count self.new.failures.count }
+        ensures stays { OnOk done (self.new.failures ≡ self.old.failures) }
+        ensures first { IfErr done (λ e. self.new.failures.first ≡ option_or self.old.failures.first (Some (record { call = call; file = self.old.file; error = e }))) }
         ensures name { self.new.name ≡ self.old.name }
         ensures file { self.new.file ≡ self.old.file }
     {
         match done {
-            Some(value) => Ok(value),
-            None => {
-                self.faults = one_more(self.faults);
+            Ok(value) => Ok(value),
+            Err(error) => {
+                let file = self.file;
+                self.failures.add(Failure { call, file, error });
                 Err(DiskFault::Failed)
             }
         }
     }
 }
 
-fn bounded_size(file: &File) -> Option<u64>
-    ensures { IfSome result (λ n. n ≤ 2 ^ 48) }
+fn bounded_size(file: &File) -> IoResult<u64>
+    ensures { IfOk result (λ n. n ≤ 2 ^ 48) }
 {
-    let size = file.metadata().ok()?.len();
+    let size = size_of(file)?;
     if size <= GREATEST_SIZE {
-        Some(size)
+        Ok(size)
     } else {
-        None
+        Err(Error::new(ErrorKind::FileTooLarge, "longer than 2^48 bytes"))
     }
 }
 
@@ -79,26 +95,26 @@ impl Shelf for FileShelf {
 
     ghost bytes = { λ s. [] };
 
-    ghost fault_count = { λ s. s.faults };
+    ghost fault_count = { λ s. s.failures.count };
 
     fn size(&mut self) -> Result<u64, DiskFault> {
         let done = match &self.opened {
             Some(opened) => bounded_size(opened),
-            None => Some(0),
+            None => Ok(0),
         };
-        self.counted(done)
+        self.counted(FileCall::Size, done)
     }
 
     fn read_at(&mut self, at: u64, into: &mut [u8]) -> Result<(), DiskFault> {
         let done = match &self.opened {
-            Some(opened) => opened.read_exact_at(into, at).ok(),
-            None if into.is_empty() => Some(()),
-            None => None,
+            Some(opened) => opened.read_exact_at(into, at),
+            None if into.is_empty() => Ok(()),
+            None => Err(Error::from(ErrorKind::UnexpectedEof)),
         };
-        self.counted(done)
+        self.counted(FileCall::ReadAt, done)
     }
 
     fn faults(&self) -> u64 {
-        self.faults
+        self.failures.count
     }
 }

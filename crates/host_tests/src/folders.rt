@@ -7,6 +7,8 @@ use file_host::*;
 use samza_model::Bin;
 use std::alloc::Global;
 use std::fs;
+use std::fs::File;
+use std::os::unix::fs::symlink;
 use std::test::Fail;
 
 fn stream_in(alloc: Global) -> Result<DiskName, Fail> {
@@ -129,26 +131,121 @@ fn partitions_are_counted_by_the_files_names(rt: HostRuntime) -> Result<(), Fail
     Ok(())
 }
 
-/// The configuration's text that a folder has, and whether a folder in its place is told as a fault.
-fn texts(
-    rt: &HostRuntime,
-    host: &mut FileHost<HostRuntime>,
-) -> Result<(Option<Vec<u8>>, bool), Fail> {
-    fs::write(rt, "text/job.properties", b"a=b".as_slice())?;
-    let text = host.text(rt.alloc())?;
-    fs::remove_file(rt, "text/job.properties")?;
-    fs::create_dir(rt, "text/job.properties")?;
-    let is_fault = host.text(rt.alloc()).is_err();
-    Ok((text, is_fault))
+/// How many entries that are no regular files are counted as partitions: a folder, a link to a device, and a link to nothing;
+/// and how many with a link to a regular file.
+fn counted_links(rt: &HostRuntime, host: &mut FileHost<HostRuntime>) -> Result<(u32, u32), Fail> {
+    let _ = fs::remove_dir_all(rt, "counts");
+    fs::create_dir_all(rt, "counts/streams/kafka/in.1/7.log")?;
+    symlink(rt, "/dev/null", "counts/streams/kafka/in.1/8.log")?;
+    symlink(rt, "none.log", "counts/streams/kafka/in.1/9.log")?;
+    let none = partitions(rt.alloc(), host)?;
+    make_file(rt, "file")?;
+    symlink(rt, "file", "counts/streams/kafka/in.1/2.log")?;
+    Ok((none, partitions(rt.alloc(), host)?))
 }
 
 #[test]
-fn the_configuration_is_a_file(rt: HostRuntime) -> Result<(), Fail> {
-    let mut host = folder(&rt, "text")?;
-    let _ = fs::remove_dir_all(&rt, "text");
-    fs::create_dir(&rt, "text")?;
-    let (text, is_fault) = texts(&rt, &mut host)?;
+fn partitions_are_regular_files(rt: HostRuntime) -> Result<(), Fail> {
+    let mut host = folder(&rt, "counts")?;
+    assert_eq!(rt; counted_links(&rt, &mut host)?, (0, 3));
+    Ok(())
+}
+
+/// Makes the folder of the tests of the configuration anew.
+fn fresh_text(rt: &HostRuntime) -> Result<FileHost<HostRuntime>, Fail> {
+    let _ = fs::remove_dir_all(rt, "text");
+    fs::create_dir(rt, "text")?;
+    folder(rt, "text")
+}
+
+#[test]
+fn the_configuration_is_read(rt: HostRuntime) -> Result<(), Fail> {
+    let mut host = fresh_text(&rt)?;
+    fs::write(&rt, "text/job.properties", b"a=b".as_slice())?;
+    let text = host.text(rt.alloc())?;
     assert!(rt; text.is_some_and(|text| text.as_slice() == b"a=b".as_slice()));
-    assert!(rt; is_fault && host.faults() == 1);
+    assert!(rt; host.cause().is_none());
+    Ok(())
+}
+
+#[test]
+fn a_configuration_that_is_too_long_is_read_to_its_bound(rt: HostRuntime) -> Result<(), Fail> {
+    let mut host = fresh_text(&rt)?;
+    let file = File::create(&rt, "text/job.properties")?;
+    file.set_len(1 << 30)?;
+    let text = host.text(rt.alloc())?;
+    assert!(rt; text.is_some_and(|text| text.len() == 1_048_577));
+    Ok(())
+}
+
+/// The words of a host's first failure, and the number of faults.
+fn told(alloc: Global, host: &FileHost<HostRuntime>) -> Result<(String, u64), Fail> {
+    let mut words = String::new(alloc);
+    if let Some(cause) = host.cause() {
+        write!(words, "{cause}")?;
+    }
+    Ok((words, host.faults()))
+}
+
+#[test]
+fn a_device_in_place_of_the_configuration_is_refused(rt: HostRuntime) -> Result<(), Fail> {
+    let mut host = fresh_text(&rt)?;
+    symlink(&rt, "/dev/zero", "text/job.properties")?;
+    let is_refused = host.text(rt.alloc()).is_err();
+    let (words, faults) = told(rt.alloc(), &host)?;
+    assert!(rt; is_refused && faults == 1);
+    assert_eq!(rt; words.as_str(), "text job.properties: not a regular file");
+    Ok(())
+}
+
+#[test]
+fn a_folder_in_place_of_a_shelfs_file_is_refused(rt: HostRuntime) -> Result<(), Fail> {
+    let mut host = folder(&rt, "shelved")?;
+    let name = stream_in(rt.alloc())?;
+    fs::create_dir_all(&rt, "shelved/streams/kafka/in.1/3.log")?;
+    let is_refused = host.shelf(rt.alloc(), &name, 3).is_err();
+    let (words, faults) = told(rt.alloc(), &host)?;
+    assert!(rt; is_refused && faults == 1);
+    assert_eq!(rt;
+        words.as_str(),
+        "shelf streams/kafka/in.1/3.log: not a regular file"
+    );
+    Ok(())
+}
+
+/// Whether both calls fail on a folder in place of the file.
+fn fails_twice(disk: &mut FileDisk<HostRuntime>, file: u32) -> bool
+    ensures { ⟦<FileDisk<HostRuntime> as Disk>⟧.name disk.new ≡ ⟦<FileDisk<HostRuntime> as Disk>⟧.name disk.old }
+{
+    let is_refused = disk.size(file).is_err();
+    disk.sync(file).is_err() && is_refused
+}
+
+#[test]
+fn the_first_failure_of_a_disk_is_told(rt: HostRuntime) -> Result<(), Fail> {
+    let mut host = folder(&rt, "told")?;
+    let task = DiskName::Task(7);
+    fs::create_dir_all(&rt, "told/tasks/7/16.log")?;
+    let mut disk = host.lend(rt.alloc(), &task)?;
+    let has_failed = fails_twice(&mut disk, 16);
+    host.take_disk(&task, disk);
+    let (words, faults) = told(rt.alloc(), &host)?;
+    assert!(rt; has_failed && faults == 2);
+    assert_eq!(rt; words.as_str(), "size tasks/7/16.log: not a regular file");
+    Ok(())
+}
+
+#[test]
+fn a_file_in_place_of_a_folder_is_told(rt: HostRuntime) -> Result<(), Fail> {
+    let mut host = folder(&rt, "blocked")?;
+    let _ = fs::create_dir(&rt, "blocked");
+    fs::write(&rt, "blocked/tasks", b"".as_slice())?;
+    let is_refused = host.lend(rt.alloc(), &DiskName::Task(0)).is_err();
+    let (words, faults) = told(rt.alloc(), &host)?;
+    assert!(rt; is_refused && faults == 1);
+    assert_eq!(rt;
+        words.as_str(),
+        "lend tasks/0/: Not a directory (os error 20)"
+    );
     Ok(())
 }

@@ -106,12 +106,24 @@ fn partitions_in(alloc: Global, host: &mut MemHost) -> Result<u32, Fail> {
     Ok(host.partitions(alloc, &system, &stream)?)
 }
 
+/// Puts bytes in the place of a file, where they fit.
+fn put(host: &mut MemHost, name: &DiskName, file: u32, bytes: &[u8]) -> Result<(), Fail>
+    requires { NoneOut (host_disks_out host.old) (host_shelves_out host.old) }
+    ensures { NoneOut (host_disks_out host.new) (host_shelves_out host.new) }
+{
+    if !host.fits(name, file, bytes.len()) {
+        return Err(Fail::new("it doesn't fit"));
+    }
+    host.put_file(name, file, bytes)?;
+    Ok(())
+}
+
 /// A host whose disk of this name has "xyz" in file 1.
 fn host_of(alloc: Global, name: &DiskName) -> Result<MemHost, Fail>
     ensures { IfOk result (λ h. NoneOut (host_disks_out h) (host_shelves_out h)) }
 {
     let mut host = MemHost::new(alloc, None, 64, 16)?;
-    host.put_file(name, 1, b"xyz")?;
+    put(&mut host, name, 1, b"xyz")?;
     Ok(host)
 }
 
@@ -121,6 +133,25 @@ fn a_host_shows_the_files_that_were_put(rt: HostRuntime) -> Result<(), Fail> {
     let mut host = host_of(rt.alloc(), &name)?;
     assert!(rt; host.file(&name, 1) == b"xyz".as_slice() && host.file(&name, 0).is_empty());
     assert_eq!(rt; partitions_in(rt.alloc(), &mut host)?, 2);
+    Ok(())
+}
+
+/// Where bytes fit: below the number of a disk's files, and within the room.
+#[test]
+fn a_file_fits_below_the_number_of_files_and_within_the_room(rt: HostRuntime) -> Result<(), Fail> {
+    let stream = stream_in(rt.alloc())?;
+    let task = DiskName::Task(7);
+    let host = host_of(rt.alloc(), &stream)?;
+    let files = [
+        host.fits(&task, 63, 64),
+        host.fits(&task, 64, 0),
+        host.fits(&stream, 255, 64),
+        host.fits(&stream, 256, 0),
+    ];
+    assert_eq!(rt;
+        (files, host.fits(&stream, 1, 65)),
+        ([true, false, true, false], false)
+    );
     Ok(())
 }
 
@@ -202,8 +233,8 @@ fn torn_host(alloc: Global, task: &DiskName) -> Result<MemHost, Fail>
     ensures { IfOk result (λ h. (host_disks_out h task.now ≡ 0) × (host_shelves_out h task.now ≡ 0)) }
 {
     let mut host = MemHost::new(alloc, None, 64, 16)?;
-    host.put_file(task, 0, b"abcd")?;
-    host.put_file(&DiskName::Task(1), 0, b"abcd")?;
+    put(&mut host, task, 0, b"abcd")?;
+    put(&mut host, &DiskName::Task(1), 0, b"abcd")?;
     host.arm(task, Vec::new(alloc), Some(1))?;
     let mut disk = host.lend(alloc, task)?;
     let _ = disk.write_at(0, 0, b"wxyz");

@@ -3,7 +3,13 @@ use Rattle.std.proofs.Common.{◌≡◌, ℕ, List, [], ◌∷◌, ◌++◌, len
 use Rattle.std.proofs.lemmas.List.{append-nil, nil_from_length}
 use Rattle.job_config.specs.declared.rows.RowFault.{RowFault}
 use Rattle.job_config.specs.declared.rows.RowFault.TheVariants.{Bad, NoMemory}
-use Rattle.job_config.specs.Asking.{Fault, Fails, Asks, ◌>>=◌, on_ok, gives, each, with_front}
+use Rattle.job_config.specs.Asking.{Fault, Asks, ◌>>=◌, on_ok, gives, each}
+use Rattle.job_config.specs.Outcome.{Fails}
+
+-- these, and then what asking gives
+abbrev pub with_front : {A : Type 0} → List A → Result (List A × List (List ℕ)) Fault → Result (List A × List (List ℕ)) Fault
+with_front front (Ok r) = Ok (front ++ r.0, r.1)
+with_front front (Err e) = Err e
 
 in_front : {A : Type 0} (front : List A) (y : A) (r : Result (List A × List (List ℕ)) Fault)
     → with_front front (on_ok r (λ ys. gives (y ∷ ys))) ≡ with_front (front ++ y ∷ []) r

@@ -11,6 +11,16 @@ use Rattle.job_config.specs.Spelling.{is_ascii}
 use Rattle.job_config.specs.Parts.{kept}
 use Rattle.job_config.proofs.Spelled.{topic_in_ascii}
 
+-- the entries of what is left of a list, if anything is
+abbrev pub entries_left : Option (List ℕ) → List (List ℕ)
+entries_left None = []
+entries_left (Some rest) = entries_of rest
+
+-- how much is left of a list: one more than its length, if anything is
+abbrev pub size_left : Option (List ℕ) → ℕ
+size_left None = 0
+size_left (Some rest) = length rest + 1
+
 abbrev is_comma : ℕ → Bool
 is_comma c = c == 44
 

@@ -22,7 +22,7 @@ use Rattle.job_config.specs.Keys.{text_of, store_key, stream_key}
 use Rattle.job_config.specs.Values.{any_text, some_text, size, cut, then_number, start, own_flag, flag, priority}
 use Rattle.job_config.specs.Numbers.{number_of}
 use Rattle.job_config.specs.Stores.{store_of, is_misnamed, is_no_store_name, unless_misnamed, store_names, new_store, store_row, counted_stores, store_rows}
-use Rattle.job_config.specs.Streams.{system_of, stream_of, new_stream, stream_row, input_of, stream_rows}
+use Rattle.job_config.specs.Streams.{system_of, stream_of, new_stream, on_said, stream_said, stream_row, input_of, stream_rows}
 use Rattle.job_config.specs.Lists.{in_order}
 use Rattle.job_config.specs.Asking.{Fault, Asks, ◌>>=◌, gives, row, each, unless}
 use Rattle.job_config.specs.Bounds.{AreRising, AreStores, IsStore, input_name, store_name}
@@ -30,6 +30,7 @@ use Rattle.job_config.proofs.Rising.{in_order_rises}
 use Rattle.job_config.proofs.Topics.{each_in_order}
 use Rattle.job_config.proofs.Yields.{through, row_gave, unless_gave, each_all, each_keeps}
 use Rattle.job_config.proofs.Spelled.{and_right}
+use Rattle.job_config.proofs.Within.{priority_most}
 
 -- a size is from 1 to its bound, where what it is without a key is
 cut_bounds : (most : ℕ) (n : Option ℕ) (x : ℕ) → 1 ≤ most → cut most n ≡ Ok x → (1 ≤ x) × (x ≤ most)
@@ -59,12 +60,17 @@ store_stays p Changelog s asked r store is =
 store_stays p CacheSize s asked r store is =
     let k = through (row p (store_key CacheSize s.name) (size s.cache 1000000) asked) (λ cache. gives (record s { cache = cache })) r is in
     let same : (record s { cache = k.0.0 }, k.0.1) ≡ r = cc k.2 in
-    subst (λ (z : StoreSetup × List (List ℕ)). IsStore z.0) same (record { name = store.name; batch = store.batch })
+    subst (λ (z : StoreSetup × List (List ℕ)). IsStore z.0) same
+    (record {
+      name = store.name;
+      cache = size_bounds s.cache 1000000 (map_of.get p (store_key CacheSize s.name)) k.0.0 store.cache (row_gave p (store_key CacheSize s.name) (size s.cache 1000000) asked k.0 k.1);
+      batch = store.batch;
+    })
 store_stays p BatchSize s asked r store is =
     let k = through (row p (store_key BatchSize s.name) (size s.batch 4096) asked) (λ batch. gives (record s { batch = batch })) r is in
     let same : (record s { batch = k.0.0 }, k.0.1) ≡ r = cc k.2 in
     subst (λ (z : StoreSetup × List (List ℕ)). IsStore z.0) same
-    (record { name = store.name; batch = size_bounds s.batch 4096 (map_of.get p (store_key BatchSize s.name)) k.0.0 store.batch (row_gave p (store_key BatchSize s.name) (size s.batch 4096) asked k.0 k.1) })
+    (record { name = store.name; cache = store.cache; batch = size_bounds s.batch 4096 (map_of.get p (store_key BatchSize s.name)) k.0.0 store.batch (row_gave p (store_key BatchSize s.name) (size s.batch 4096) asked k.0 k.1) })
 
 -- a row of a store leaves it its name
 store_named : (p : Props) (setting : StoreSetting) (s : StoreSetup) (asked : List (List ℕ)) (r : StoreSetup × List (List ℕ)) → store_row p setting s asked ≡ Ok r → store_name r.0 ≡ store_name s
@@ -136,7 +142,7 @@ new_named (n ∷ ns) = ap (λ (xs : List (List ℕ)). n ∷ xs) (new_named ns)
 
 new_are : (names : List (List ℕ)) → AllByRecursion IsSystem names → AllByRecursion IsStore (map new_store names)
 new_are [] all = tt
-new_are (n ∷ ns) all = (record { name = all.0; batch = (omega arith, omega arith) }, new_are ns all.1)
+new_are (n ∷ ns) all = (record { name = all.0; cache = (omega arith, omega arith); batch = (omega arith, omega arith) }, new_are ns all.1)
 
 counted_are : (stores found : List StoreSetup) → AllByRecursion IsStore stores → counted_stores stores ≡ Ok found → AreStores found
 unfolding counted_stores
@@ -205,36 +211,52 @@ stores_rise p asked r is =
 abbrev stream_name : Stream → List ℕ
 stream_name s = s.system ++ 46 ∷ s.stream
 
--- a row of a stream leaves it its name
+abbrev HasPriority : Stream → Type 0
+HasPriority s = s.priority ≤ 1000000
+
+said_gave : {A B : Type 0} (f : A → B) (said : Result A What) (y : B) → on_said f said ≡ Ok y → (x : A) × (said ≡ Ok x) × (f x ≡ y)
+said_gave f (Ok x) y is = (x, refl, cc is)
+said_gave f (Err what) y is = absurd cc
+
+-- what a key says of a stream leaves it its name, and a priority within the bound
+said_stays : (setting : StreamSetting) (s : Stream) (t : Option (List ℕ)) (r : Stream) → stream_said setting s t ≡ Ok r → stream_name s ≡ stream_name r
+said_stays OwnStart s t r is = ap stream_name (said_gave (λ own. record s { start = own }) (start t) r is).2
+said_stays SystemStart s t r is = ap stream_name (said_gave (λ of_system. record s { start = option_or s.start of_system }) (start t) r is).2
+said_stays OwnReset s t r is = ap stream_name (said_gave (λ own. record s { reset = own }) (own_flag t) r is).2
+said_stays SystemReset s t r is = ap stream_name (said_gave (λ of_system. record s { reset = option_or s.reset of_system }) (own_flag t) r is).2
+said_stays Bootstrap s t r is = ap stream_name (said_gave (λ bootstrap. record s { bootstrap = bootstrap }) (flag t) r is).2
+said_stays Priority s t r is = ap stream_name (said_gave (λ priority. record s { priority = priority }) (priority 1000000 t) r is).2
+
+said_ranks : (setting : StreamSetting) (s : Stream) (t : Option (List ℕ)) (r : Stream) → HasPriority s → stream_said setting s t ≡ Ok r → HasPriority r
+said_ranks OwnStart s t r ranks is = subst HasPriority (said_gave (λ own. record s { start = own }) (start t) r is).2 ranks
+said_ranks SystemStart s t r ranks is = subst HasPriority (said_gave (λ of_system. record s { start = option_or s.start of_system }) (start t) r is).2 ranks
+said_ranks OwnReset s t r ranks is = subst HasPriority (said_gave (λ own. record s { reset = own }) (own_flag t) r is).2 ranks
+said_ranks SystemReset s t r ranks is = subst HasPriority (said_gave (λ of_system. record s { reset = option_or s.reset of_system }) (own_flag t) r is).2 ranks
+said_ranks Bootstrap s t r ranks is = subst HasPriority (said_gave (λ bootstrap. record s { bootstrap = bootstrap }) (flag t) r is).2 ranks
+said_ranks Priority s t r ranks is = let k = said_gave (λ priority. record s { priority = priority }) (priority 1000000 t) r is in subst HasPriority k.2 (priority_most 1000000 t k.0 k.1)
+
+-- so does a row of a stream
 stream_stays : (p : Props) (setting : StreamSetting) (s : Stream) (asked : List (List ℕ)) (r : Stream × List (List ℕ)) → stream_row p setting s asked ≡ Ok r → stream_name r.0 ≡ stream_name s
 unfolding stream_row
-stream_stays p OwnStart s asked r is =
-    let k = through (row p (stream_key OwnStart s.system s.stream) start asked) (λ own. gives (record s { start = own })) r is in
-    let same : (record s { start = k.0.0 }, k.0.1) ≡ r = cc k.2 in
-    sym (ap (λ (z : Stream × List (List ℕ)). stream_name z.0) same)
-stream_stays p SystemStart s asked r is =
-    let k = through (row p (stream_key SystemStart s.system s.stream) start asked) (λ of_system. gives (record s { start = option_or s.start of_system })) r is in
-    let same : (record s { start = option_or s.start k.0.0 }, k.0.1) ≡ r = cc k.2 in
-    sym (ap (λ (z : Stream × List (List ℕ)). stream_name z.0) same)
-stream_stays p OwnReset s asked r is =
-    let k = through (row p (stream_key OwnReset s.system s.stream) own_flag asked) (λ own. gives (record s { reset = own })) r is in
-    let same : (record s { reset = k.0.0 }, k.0.1) ≡ r = cc k.2 in
-    sym (ap (λ (z : Stream × List (List ℕ)). stream_name z.0) same)
-stream_stays p SystemReset s asked r is =
-    let k = through (row p (stream_key SystemReset s.system s.stream) own_flag asked) (λ of_system. gives (record s { reset = option_or s.reset of_system })) r is in
-    let same : (record s { reset = option_or s.reset k.0.0 }, k.0.1) ≡ r = cc k.2 in
-    sym (ap (λ (z : Stream × List (List ℕ)). stream_name z.0) same)
-stream_stays p Bootstrap s asked r is =
-    let k = through (row p (stream_key Bootstrap s.system s.stream) flag asked) (λ bootstrap. gives (record s { bootstrap = bootstrap })) r is in
-    let same : (record s { bootstrap = k.0.0 }, k.0.1) ≡ r = cc k.2 in
-    sym (ap (λ (z : Stream × List (List ℕ)). stream_name z.0) same)
-stream_stays p Priority s asked r is =
-    let k = through (row p (stream_key Priority s.system s.stream) (priority 1000000) asked) (λ priority. gives (record s { priority = priority })) r is in
-    let same : (record s { priority = k.0.0 }, k.0.1) ≡ r = cc k.2 in
-    sym (ap (λ (z : Stream × List (List ℕ)). stream_name z.0) same)
+stream_stays p setting s asked r is =
+    let key = stream_key setting s.system s.stream in
+    sym (said_stays setting s (map_of.get p key) r.0 (row_gave p key (stream_said setting s) asked r is))
+
+stream_ranks : (p : Props) (setting : StreamSetting) (s : Stream) (asked : List (List ℕ)) (r : Stream × List (List ℕ)) → HasPriority s → stream_row p setting s asked ≡ Ok r → HasPriority r.0
+unfolding stream_row
+stream_ranks p setting s asked r ranks is =
+    let key = stream_key setting s.system s.stream in
+    said_ranks setting s (map_of.get p key) r.0 ranks (row_gave p key (stream_said setting s) asked r is)
 
 streams_stay : (p : Props) (setting : StreamSetting) (xs : List Stream) (asked : List (List ℕ)) (r : List Stream × List (List ℕ)) → each xs (stream_row p setting) asked ≡ Ok r → map stream_name r.0 ≡ map stream_name xs
 streams_stay p setting = each_keeps stream_name stream_name (stream_row p setting) (stream_stays p setting)
+
+rows_rank : (p : Props) (setting : StreamSetting) (xs : List Stream) (asked : List (List ℕ)) (r : List Stream × List (List ℕ)) → AllByRecursion HasPriority xs → each xs (stream_row p setting) asked ≡ Ok r → AllByRecursion HasPriority r.0
+rows_rank p setting xs asked r all is = (each_all HasPriority HasPriority (stream_row p setting) (stream_ranks p setting) xs asked r all is).0
+
+new_rank : (names : List (List ℕ)) → AllByRecursion HasPriority (map new_stream names)
+new_rank [] = tt
+new_rank (n ∷ ns) = (omega arith, new_rank ns)
 
 some_stream : (t : List ℕ) → is_stream t ≡ true → 1 ≤ length t
 some_stream [] h = absurd cc
@@ -257,6 +279,10 @@ new_names (n ∷ ns) all = cc (whole n all.0, new_names ns all.1)
 input_names : (streams : List Stream) → map input_name (map input_of streams) ≡ map stream_name streams
 input_names [] = refl
 input_names (s ∷ ss) = ap (λ (xs : List (List ℕ)). stream_name s ∷ xs) (input_names ss)
+
+input_ranks : (streams : List Stream) → AllByRecursion HasPriority streams → AllByRecursion (λ (i : InputConfig). i.priority ≤ 1000000) (map input_of streams)
+input_ranks [] all = tt
+input_ranks (s ∷ ss) all = (all.0, input_ranks ss all.1)
 
 -- the rows of the streams from each place on
 abbrev from_bootstrap : Props → List Stream → Asks (List InputConfig)
@@ -294,3 +320,22 @@ inputs_named p names asked r all is =
     ∙ streams_stay p SystemStart a.0.0 a.0.1 b.0 b.1
     ∙ streams_stay p OwnStart (map new_stream names) asked a.0 a.1
     ∙ new_names names all
+
+-- the inputs have a priority within its bound
+pub inputs_rank : (p : Props) (names asked : List (List ℕ)) (r : List InputConfig × List (List ℕ)) → stream_rows p names asked ≡ Ok r → AllByRecursion (λ (i : InputConfig). i.priority ≤ 1000000) r.0
+unfolding stream_rows
+inputs_rank p names asked r is =
+    let a = through (each (map new_stream names) (stream_row p OwnStart) asked) (from_own_start p) r is in
+    let b = through (each a.0.0 (stream_row p SystemStart) a.0.1) (from_start p) r a.2 in
+    let c = through (each b.0.0 (stream_row p OwnReset) b.0.1) (from_own_reset p) r b.2 in
+    let d = through (each c.0.0 (stream_row p SystemReset) c.0.1) (from_reset p) r c.2 in
+    let e = through (each d.0.0 (stream_row p Bootstrap) d.0.1) (from_bootstrap p) r d.2 in
+    let f = through (each e.0.0 (stream_row p Priority) e.0.1) (λ f. gives (map input_of f)) r e.2 in
+    let same : (map input_of f.0.0, f.0.1) ≡ r = cc f.2 in
+    let a_rank = rows_rank p OwnStart (map new_stream names) asked a.0 (new_rank names) a.1 in
+    let b_rank = rows_rank p SystemStart a.0.0 a.0.1 b.0 a_rank b.1 in
+    let c_rank = rows_rank p OwnReset b.0.0 b.0.1 c.0 b_rank c.1 in
+    let d_rank = rows_rank p SystemReset c.0.0 c.0.1 d.0 c_rank d.1 in
+    let e_rank = rows_rank p Bootstrap d.0.0 d.0.1 e.0 d_rank e.1 in
+    let f_rank = rows_rank p Priority e.0.0 e.0.1 f.0 e_rank f.1 in
+    subst (λ (z : List InputConfig × List (List ℕ)). AllByRecursion (λ (i : InputConfig). i.priority ≤ 1000000) z.0) same (input_ranks f.0.0 f_rank)

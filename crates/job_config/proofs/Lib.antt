@@ -10,4 +10,5 @@ pub mod Spelled
 pub mod StoreNames
 pub mod Topics
 pub mod Unread
+pub mod Within
 pub mod Yields

@@ -10,7 +10,7 @@ use Rattle.props_text.specs.Pairs.{Props}
 use Rattle.job_config.specs.declared.faults.What.TheVariants.{BadName}
 use Rattle.job_config.specs.declared.rows.RowFault.{RowFault}
 use Rattle.job_config.specs.declared.rows.RowFault.TheVariants.{Bad, NoMemory}
-use Rattle.job_config.specs.Asking.{Fails}
+use Rattle.job_config.specs.Outcome.{Fails}
 use Rattle.job_config.specs.Lists.{in_order}
 use Rattle.job_config.specs.Stores.{store_of, is_misnamed, unless_misnamed, store_names}
 use Rattle.job_config.specs.Parts.{with_store, PutsStore}

@@ -12,6 +12,10 @@ pub through : {A B : Type 0} (first : Result (A × List (List ℕ)) Fault) (f : 
 through (Ok x) f r is = (x, refl, is)
 through (Err e) f r is = absurd cc
 
+-- what is given is given
+pub just_given : {A : Type 0} (x : A) (asked : List (List ℕ)) (r : A × List (List ℕ)) → gives x asked ≡ Ok r → x ≡ r.0
+just_given {A = A} x asked r is = let same : (x, asked) ≡ r = cc is in ap (λ (z : A × List (List ℕ)). z.0) same
+
 row_of_gave : {A : Type 0} (key : List ℕ) (says : Result A What) (asked : List (List ℕ)) (r : A × List (List ℕ)) → row_of key says asked ≡ Ok r → says ≡ Ok r.0
 row_of_gave {A = A} key (Ok x) asked r is = let same : (x, asked ++ key ∷ []) ≡ r = cc is in ap (λ (z : A × List (List ℕ)). Ok z.0) same
 row_of_gave key (Err what) asked r is = absurd cc

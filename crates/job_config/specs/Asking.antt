@@ -1,10 +1,8 @@
 -- How the keys are asked for, one after another: a value and the keys asked for so far, or the first bad key.
-use Rattle.std.specs.Prelude.{◌≡◌, ℕ, List, [], ◌∷◌, ◌++◌, Option, Result, Ok, Err}
+use Rattle.std.specs.Prelude.{ℕ, List, [], ◌∷◌, ◌++◌, Option, Result, Ok, Err}
 use Rattle.std.specs.FinMap.{get}
 use Rattle.props_text.specs.Pairs.{Props}
 use Rattle.job_config.specs.declared.faults.What.{What}
-use Rattle.job_config.specs.declared.rows.RowFault.{RowFault}
-use Rattle.job_config.specs.declared.rows.RowFault.TheVariants.{Bad, NoMemory}
 
 -- a bad key, and what is wrong with it
 abbrev pub Fault : Type 0
@@ -45,22 +43,3 @@ each (x ∷ xs) f = do
 abbrev pub unless : {A : Type 0} → Result A Fault → Asks A
 unless (Ok x) = gives x
 unless (Err e) = λ asked. Err e
-
--- What a function answered is what asking gives, unless memory ran out.
-abbrev pub Fails : {A : Type 0} → RowFault → Result A Fault → Type 0
-Fails NoMemory asking = Unit {0}
-Fails (Bad key what) asking = asking ≡ Err (key, what)
-
-abbrev pub Gives : {A : Type 0} → List (List ℕ) → Result A RowFault → Result (A × List (List ℕ)) Fault → Type 0
-Gives asked (Ok x) asking = asking ≡ Ok (x, asked)
-Gives asked (Err fault) asking = Fails fault asking
-
--- The same of what is no asking.
-abbrev pub Answers : {A : Type 0} → Result A RowFault → Result A Fault → Type 0
-Answers (Ok x) r = r ≡ Ok x
-Answers (Err fault) r = Fails fault r
-
--- these, and then what asking gives
-abbrev pub with_front : {A : Type 0} → List A → Result (List A × List (List ℕ)) Fault → Result (List A × List (List ℕ)) Fault
-with_front front (Ok r) = Ok (front ++ r.0, r.1)
-with_front front (Err e) = Err e

@@ -1,4 +1,4 @@
--- The rows of the table from the containers to the batch, by themselves.
+-- The rows of the table that bound a run: numbers, intervals and a flag, from the containers to the batch.
 use Rattle.std.specs.Prelude.{None, Some}
 use Rattle.props_text.specs.Pairs.{Props}
 use Rattle.job_config.specs.declared.table.Limits.{Limits}

@@ -1,9 +1,10 @@
 -- The inputs of a configuration, and the rows of their streams' keys.
-use Rattle.std.specs.Prelude.{ℕ, false, ◌==◌, List, map, None, unwrap_or}
+use Rattle.std.specs.Prelude.{ℕ, false, ◌==◌, List, map, Option, None, unwrap_or, Result, Ok, Err}
 use Rattle.std.specs.Option.{option_or}
 use Rattle.std.specs.List.{before_first, after_first}
 use Rattle.props_text.specs.Pairs.{Props}
 use Rattle.samza_model.specs.declared.setups.OffsetDefault.TheVariants.{Upcoming}
+use Rattle.job_config.specs.declared.faults.What.{What}
 use Rattle.job_config.specs.declared.config.InputConfig.{InputConfig}
 use Rattle.job_config.specs.declared.streams.Stream.{Stream}
 use Rattle.job_config.specs.declared.keys.StreamSetting.{StreamSetting}
@@ -23,27 +24,24 @@ stream_of name = after_first (λ c. c == 46) name
 abbrev pub new_stream : List ℕ → Stream
 new_stream name = record { system = system_of name; stream = stream_of name; start = None; reset = None; bootstrap = false; priority = 0 }
 
--- A row of a stream: the stream with what its key says. What its own key says goes before what its system's says, which
--- is tested all the same.
+-- what a value says, put in
+abbrev pub on_said : {A B : Type 0} → (A → B) → Result A What → Result B What
+on_said f (Ok x) = Ok (f x)
+on_said f (Err what) = Err what
+
+-- The stream with what the value of a key says of it. What its own key says goes before what its system's says, which is
+-- tested all the same.
+abbrev pub stream_said : StreamSetting → Stream → Option (List ℕ) → Result Stream What
+stream_said OwnStart s t = on_said (λ own. record s { start = own }) (start t)
+stream_said SystemStart s t = on_said (λ of_system. record s { start = option_or s.start of_system }) (start t)
+stream_said OwnReset s t = on_said (λ own. record s { reset = own }) (own_flag t)
+stream_said SystemReset s t = on_said (λ of_system. record s { reset = option_or s.reset of_system }) (own_flag t)
+stream_said Bootstrap s t = on_said (λ bootstrap. record s { bootstrap = bootstrap }) (flag t)
+stream_said Priority s t = on_said (λ priority. record s { priority = priority }) (priority 1000000 t)
+
+-- a row of a stream
 unfoldable pub stream_row : Props → StreamSetting → Stream → Asks Stream
-stream_row p OwnStart s = do
-  own ← row p (stream_key OwnStart s.system s.stream) start
-  gives (record s { start = own })
-stream_row p SystemStart s = do
-  of_system ← row p (stream_key SystemStart s.system s.stream) start
-  gives (record s { start = option_or s.start of_system })
-stream_row p OwnReset s = do
-  own ← row p (stream_key OwnReset s.system s.stream) own_flag
-  gives (record s { reset = own })
-stream_row p SystemReset s = do
-  of_system ← row p (stream_key SystemReset s.system s.stream) own_flag
-  gives (record s { reset = option_or s.reset of_system })
-stream_row p Bootstrap s = do
-  bootstrap ← row p (stream_key Bootstrap s.system s.stream) flag
-  gives (record s { bootstrap = bootstrap })
-stream_row p Priority s = do
-  priority ← row p (stream_key Priority s.system s.stream) (priority 1000000)
-  gives (record s { priority = priority })
+stream_row p setting s = row p (stream_key setting s.system s.stream) (stream_said setting s)
 
 -- an input; where no key says so, it begins behind its last message, and a kept offset counts
 abbrev pub input_of : Stream → InputConfig

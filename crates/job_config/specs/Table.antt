@@ -1,5 +1,5 @@
 -- The table of a job's configuration: its keys in order, each with what its value says.
-use Rattle.std.specs.Prelude.{ℕ, Bool, not, List, [], map, Some, None, Result, Ok, Err}
+use Rattle.std.specs.Prelude.{ℕ, Bool, not, List, [], map, None, Result, Ok, Err}
 use Rattle.std.specs.List.{filter, list_any}
 use Rattle.std.specs.FinMap.{keys}
 use Rattle.props_text.specs.Pairs.{Props}
@@ -9,10 +9,11 @@ use Rattle.samza_model.specs.declared.classes.Class.TheVariants as class_is
 use Rattle.job_config.specs.declared.config.JobConfig.{JobConfig}
 use Rattle.job_config.specs.declared.shipped.Shipped.{Shipped}
 use Rattle.job_config.specs.declared.shipped.Shipped.TheVariants.{WordCount, Dedupe, SessionCount, TableJoin}
-use Rattle.job_config.specs.declared.keys.Setting.TheVariants.{JobName, TaskClass, Inputs, Outputs, Table, Containers, Workers, Concurrency, WindowMs, CommitMs, AsyncCommit, Batch}
+use Rattle.job_config.specs.declared.keys.Setting.TheVariants.{JobName, TaskClass, Inputs, Outputs, Table}
 use Rattle.job_config.specs.Keys.{text_of}
-use Rattle.job_config.specs.Values.{same, bounded, millis, flag, class, job_name}
+use Rattle.job_config.specs.Values.{same, class, job_name}
 use Rattle.job_config.specs.Lists.{inputs, outputs, one_of}
+use Rattle.job_config.specs.Limits.{limit_rows}
 use Rattle.job_config.specs.Stores.{store_rows}
 use Rattle.job_config.specs.Streams.{stream_rows}
 use Rattle.job_config.specs.Asking.{Fault, Asks, ◌>>=◌, gives, row}
@@ -35,15 +36,9 @@ table p = do
   outputs ← row p (text_of Outputs) (outputs 8)
   class ← class_row p names shipped
   stores ← store_rows p
-  containers ← row p (text_of Containers) (bounded 1 1 256)
-  workers ← row p (text_of Workers) (bounded 0 0 32)
-  concurrency ← row p (text_of Concurrency) (bounded 1 1 64)
-  window_ms ← row p (text_of WindowMs) (millis None)
-  commit_ms ← row p (text_of CommitMs) (millis (Some 60000))
-  async_commit ← row p (text_of AsyncCommit) flag
-  batch ← row p (text_of Batch) (bounded 1 1 1000000)
+  limits ← limit_rows p
   inputs ← stream_rows p names
-  gives (record { job = job; class = class; inputs = inputs; outputs = outputs; stores = stores; containers = containers; workers = workers; concurrency = concurrency; window_ms = window_ms; commit_ms = commit_ms; timeout_ms = None; async_commit = async_commit; batch = batch; unread = [] })
+  gives (record { job = job; class = class; inputs = inputs; outputs = outputs; stores = stores; containers = limits.containers; workers = limits.workers; concurrency = limits.concurrency; window_ms = limits.window_ms; commit_ms = limits.commit_ms; timeout_ms = None; async_commit = limits.async_commit; batch = limits.batch; unread = [] })
 
 -- a key that nobody asked for
 abbrev pub is_unread : List (List ℕ) → List ℕ → Bool

@@ -35,7 +35,7 @@ pub struct JobConfig {
     pub workers: u32,
     /// The greatest number of messages of a task in flight, 1 to 64.
     pub concurrency: u32,
-    /// Intervals in milliseconds; none means never.
+    /// Intervals in milliseconds, from 1 on and below 2^63; none means never.
     pub window_ms: Option<u64>,
     pub commit_ms: Option<u64>,
     pub timeout_ms: Option<u64>,

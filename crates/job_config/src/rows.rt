@@ -3,7 +3,8 @@ ghost use Rattle.std.specs.Prelude.{◌≤◌};
 ghost use Rattle.job_config.specs.Keys.{text_of};
 ghost use Rattle.job_config.specs.Values.{bounded, millis, flag, class, job_name};
 ghost use Rattle.job_config.specs.Lists.{inputs, outputs, one_of};
-ghost use Rattle.job_config.specs.Asking.{Gives, row_of, row};
+ghost use Rattle.job_config.specs.Asking.{row_of, row};
+ghost use Rattle.job_config.specs.Parts.{Gives};
 
 use crate::faults::What;
 use crate::keys::{Asked, Key, Setting};

@@ -3,8 +3,8 @@ ghost use Rattle.std.specs.Prelude.{◌≡◌, ◌++◌, map, option_copied, IfO
 ghost use Rattle.std.specs.BTreeSet.{keys};
 ghost use Rattle.samza_model.specs.Names.{is_system};
 ghost use Rattle.job_config.specs.Stores.{behind, before, named_in, store_of, store_names, counted_stores, new_store, store_row, store_rows};
-ghost use Rattle.job_config.specs.Asking.{Gives, Answers, each};
-ghost use Rattle.job_config.specs.Parts.{PutsStore};
+ghost use Rattle.job_config.specs.Asking.{each};
+ghost use Rattle.job_config.specs.Parts.{Gives, Answers, PutsStore};
 
 use crate::faults::What;
 use crate::keys::{Asked, Key, Setting, StoreSetting};

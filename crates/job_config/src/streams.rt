@@ -1,9 +1,9 @@
 // The inputs of a configuration, and the rows of their streams' keys.
 ghost use Rattle.std.specs.Prelude.{◌≡◌, ◌==◌, ◌≤◌, IfOk, map, length, drop, option_copied};
 ghost use Rattle.std.specs.List.{position_or_len};
-ghost use Rattle.job_config.specs.Streams.{system_of, stream_of, new_stream, stream_row, input_of, stream_rows};
-ghost use Rattle.job_config.specs.Asking.{Gives, each};
-ghost use Rattle.job_config.specs.Said.{Puts, stream_said};
+ghost use Rattle.job_config.specs.Streams.{system_of, stream_of, new_stream, stream_said, stream_row, input_of, stream_rows};
+ghost use Rattle.job_config.specs.Asking.{each};
+ghost use Rattle.job_config.specs.Parts.{Gives, Puts};
 
 use crate::config::InputConfig;
 use crate::faults::What;

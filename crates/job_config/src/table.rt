@@ -1,6 +1,6 @@
 // The table of a job's configuration.
 ghost use Rattle.std.specs.Prelude.{IfOk};
-ghost use Rattle.job_config.specs.Asking.{Gives};
+ghost use Rattle.job_config.specs.Parts.{Gives};
 ghost use Rattle.job_config.specs.Bounds.{IsBounded};
 ghost use Rattle.job_config.specs.Limits.{limit_rows};
 ghost use Rattle.job_config.specs.Table.{class_row, table};

@@ -9,12 +9,22 @@ use Rattle.std.specs.FinMap.Entries.{below_all, put, by_order}
 use Rattle.std.specs.BTreeMap.Range.{range_contains}
 use Rattle.std.specs.declared.ops.Bound.TheVariants.{Included, Unbounded}
 use Rattle.samza_model.specs.Content.{Content, nothing_stored, updated, next_pair}
-use Rattle.kv_store.specs.Slots.{Slots, left_by, content_of, first_live, with_slot}
+use Rattle.kv_store.specs.Slots.{Slots, left_by, content_of, with_slot}
 use Rattle.std.specs.List.Sorted.{IsStrictlySortedBy}
 use Rattle.std.specs.Map.{lookup, keys_of}
 use Rattle.std.specs.BTreeMap.{is_at}
 use Rattle.kv_store.proofs.Trees.{get-tree, from_entries-insert, from_entries-remove, entries-from_entries}
 use Rattle.kv_store.proofs.Updates.{updated-get, same_key, same_content, get-updated, bytes_tell_apart}
+
+-- the entry, if it has a value, and else the other
+abbrev pub live_or : List ℕ → Option (List ℕ) → Option (List ℕ × List ℕ) → Option (List ℕ × List ℕ)
+live_or k (Some v) other = Some (k, v)
+live_or k None other = other
+
+-- the first entry that has a value
+abbrev pub first_live : List (List ℕ × Option (List ℕ)) → Option (List ℕ × List ℕ)
+first_live [] = None
+first_live (e ∷ es) = live_or e.0 e.1 (first_live es)
 
 flat_by : (b : Bool) (w : Option (List ℕ)) (x : Option (Option (List ℕ))) → cond b w (option_flatten x) ≡ option_flatten (cond b (Some w) x)
 flat_by true w x = refl

@@ -9,16 +9,12 @@ use Rattle.std.specs.FinMap.{get-insert, get-remove, contains_key-keys}
 use Rattle.samza_model.specs.Content.{Content, nothing_stored, updated, replayed}
 use Rattle.samza_model.specs.Limits.{IsWithinLimits}
 use Rattle.kv_store.specs.Slots.{Slots, content_of, with_slot}
-use Rattle.kv_store.specs.Tracked.{Keys, no_keys, is_in, with_key, unmarked, Tracked, Reversal, IsDirty, with_change, undone, LeadsBack, record_now, unlogged_records, AgreesOnClean, AreWithinLimits, IsTracked, IsUndo}
+use Rattle.kv_store.specs.Tracked.{Keys, no_keys, is_in, with_key, unmarked, Tracked, Reversal, with_change, undone, record_now, unlogged_records, AgreesOnClean, AreWithinLimits, IsTracked, IsUndo}
 use Rattle.kv_store.proofs.SlotContent.{get-content_of, content_of-with_slot}
 use Rattle.kv_store.proofs.KeySets.{same_keys, is_in-with_key, is_in-without_key, is_in-no_keys, has, all_keys}
 use Rattle.kv_store.proofs.Updates.{same_key, same_key-itself, equal_from_same_key, same_content, get-updated, updated-updated, updated-get}
 
 -- ---- callers' lemmas
--- one change more, made at a store that leads back
-pub LeadsBack-more : (now old first : Tracked) (u : Reversal) (us : List Reversal) → IsDirty now u.key → undone now u ≡ old → LeadsBack old us first → LeadsBack now (u ∷ us) first
-LeadsBack-more now old first u us dirty back rest = (dirty, subst (λ s. LeadsBack s us first) (sym back) rest)
-
 -- a change makes its key dirty, and no other
 pub is_in-with_change : (s : Tracked) (k : List ℕ) (w : Option (List ℕ)) (q : List ℕ) → is_in (with_change s k w).dirty q ≡ cond (same_key q k) true (is_in s.dirty q)
 is_in-with_change s k w q = is_in-with_key s.dirty k q

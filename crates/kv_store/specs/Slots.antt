@@ -17,16 +17,6 @@ left_by (e ∷ es) = updated (left_by es) e.0 e.1
 unfoldable pub content_of : Slots → Content
 content_of s = left_by (map.entries s)
 
--- the entry, if it has a value, and else the other
-abbrev pub live_or : List ℕ → Option (List ℕ) → Option (List ℕ × List ℕ) → Option (List ℕ × List ℕ)
-live_or k (Some v) other = Some (k, v)
-live_or k None other = other
-
--- the first entry that has a value
-abbrev pub first_live : List (List ℕ × Option (List ℕ)) → Option (List ℕ × List ℕ)
-first_live [] = None
-first_live (e ∷ es) = live_or e.0 e.1 (first_live es)
-
 -- the slots with one set or taken out
 abbrev pub with_slot : Slots → List ℕ → Option (Option (List ℕ)) → Slots
 with_slot s k (Some w) = map.insert s k w

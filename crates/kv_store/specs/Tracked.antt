@@ -64,18 +64,17 @@ unmarked keys key unmarks = if unmarks then without_key keys key else keys
 abbrev pub undone : Tracked → Reversal → Tracked
 undone s u = record { content = updated s.content u.key u.value; dirty = unmarked s.dirty u.key u.unmarks }
 
--- these reversals, made in turn, lead to that store, and each may be made
-abbrev pub LeadsBack : Tracked → List Reversal → Tracked → Type 0
-LeadsBack s [] first = s ≡ first
-LeadsBack s (u ∷ us) first = IsDirty s u.key × LeadsBack (undone s u) us first
-
 -- the key with the value that it has now
 abbrev pub record_now : Content → List ℕ → Record
 record_now c key = record { key = key; value = fin.get c key }
 
+-- a record for each of the keys, with the value that it has in the content, or without one
+abbrev pub records_of : Content → List (List ℕ) → List Record
+records_of content keys = map (record_now content) keys
+
 -- one record for each dirty key, in the keys' order
 abbrev pub unlogged_records : Tracked → List Record
-unlogged_records s = map (record_now s.content) (fin.keys s.dirty)
+unlogged_records s = records_of s.content (fin.keys s.dirty)
 
 -- the content has at each key that isn't dirty what the store has
 abbrev pub AgreesOnClean : Tracked → Content → Type 0

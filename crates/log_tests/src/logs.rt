@@ -70,6 +70,9 @@ fn opening_fault(alloc: Global, bytes: &[u8]) -> Result<Option<LogFault>, Fail> 
 fn reading_fault(alloc: Global, bytes: &[u8]) -> Result<Option<LogFault>, Fail> {
     let name = DiskName::Task(0);
     let mut host = MemHost::new(alloc, None, 64, 16)?;
+    if !host.fits(&name, 0, bytes.len()) {
+        return Err(Fail::new("it doesn't fit"));
+    }
     host.put_file(&name, 0, bytes)?;
     let mut shelf = host.shelf(alloc, &name, 0)?;
     Ok(read_shelf(alloc, &mut shelf).err())

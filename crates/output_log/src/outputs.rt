@@ -2,7 +2,7 @@
 ghost use Rattle.std.specs.Prelude.{◌≡◌, ◌<◌, ℕ, [], List, length, IfOk, OnOk, OnErr};
 ghost use Rattle.samza_model.specs.declared.messages.Record.{Record as RecordValue};
 ghost use Rattle.samza_model.specs.Content.{sent_at};
-ghost use Rattle.samza_model.specs.Limits.{IsWithinLimits};
+ghost use Rattle.samza_model.specs.Limits.{IsWithinLimits, frame_batch};
 ghost use Rattle.log_frame.specs.Cuts.{IsCut};
 ghost use Rattle.log_frame.specs.Frame.{AreFrames};
 ghost use Rattle.output_log.specs.Outputs.{cleared_at, sent_count, with_sent, without_last, IsCleared};
@@ -81,7 +81,7 @@ impl Outputs {
     /// error is want of memory.
     pub fn frames(&self, alloc: Global, output: u32) -> Result<Vec<Frame>, NoMemory>
         requires { output < length self.now.unsent }
-        ensures { IfOk result (λ frames. (lists : List (List RecordValue)) × IsCut 500 (sent_at self.now.unsent output) lists × AreFrames frames.items lists) }
+        ensures { IfOk result (λ frames. (lists : List (List RecordValue)) × IsCut frame_batch (sent_at self.now.unsent output) lists × AreFrames frames.items lists) }
     {
         self.queues[output as usize].frames(alloc)
     }

@@ -1,12 +1,12 @@
 // What one output was sent.
 ghost use Rattle.std.specs.Prelude.{◌≡◌, ◌+◌, ◌-◌, ◌++◌, ◌∷◌, [], List, length, take, IfOk, OnOk, OnErr};
 ghost use Rattle.samza_model.specs.declared.messages.Record.{Record as RecordValue};
-ghost use Rattle.samza_model.specs.Limits.{IsWithinLimits};
+ghost use Rattle.samza_model.specs.Limits.{IsWithinLimits, frame_batch};
 ghost use Rattle.log_frame.specs.Cuts.{IsCut};
 ghost use Rattle.log_frame.specs.Frame.{AreFrames};
 
 use log_frame::{Frame, frames_of};
-use samza_model::{NoMemory, Record};
+use samza_model::{FRAME_BATCH, NoMemory, Record};
 use std::alloc::Global;
 use std::marker::Model;
 
@@ -78,8 +78,8 @@ impl Queue {
 
     /// The records as frames of at most 500.
     pub(crate) fn frames(&self, alloc: Global) -> Result<Vec<Frame>, NoMemory>
-        ensures { IfOk result (λ frames. (lists : List (List RecordValue)) × IsCut 500 self.now.records lists × AreFrames frames.items lists) }
+        ensures { IfOk result (λ frames. (lists : List (List RecordValue)) × IsCut frame_batch self.now.records lists × AreFrames frames.items lists) }
     {
-        frames_of(alloc, self.records.as_slice(), 500)
+        frames_of(alloc, self.records.as_slice(), FRAME_BATCH)
     }
 }

@@ -10,8 +10,18 @@ use Rattle.props_text.specs.Lines.{natural_lines}
 use Rattle.props_text.specs.Logical.{logical_lines}
 use Rattle.props_text.specs.Pairs.{Props, pairs_onto, props_of}
 use Rattle.props_text.specs.Outcome.{Fails}
-use Rattle.props_text.specs.Steps.{lines_behind, lines_left, size_left, Puts, PutsLast, Takes, map_entries, entries_read}
+use Rattle.props_text.specs.Steps.{lines_behind, Puts, PutsLast, Takes, map_entries, entries_read}
 use Rattle.props_text.proofs.Puts.{no_lines, fault_entries}
+
+-- the natural lines of what is left of a text, if anything is
+abbrev pub lines_left : Option (List ℕ) → List (List ℕ)
+lines_left None = []
+lines_left (Some rest) = natural_lines rest
+
+-- how much is left of a text: one more than its length, if anything is
+abbrev pub size_left : Option (List ℕ) → ℕ
+size_left None = 0
+size_left (Some rest) = length rest + 1
 
 pub some_line : (b : Bool) (n : ℕ) → b ≡ (n == 0) → b ≡ false → n ≡ 0 → ⊥
 some_line b n is e z = false≢true (sym e ∙ is ∙ eq-eqb n 0 z)

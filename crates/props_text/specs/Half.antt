@@ -1,4 +1,4 @@
--- A step of the search for a key.
+-- A step of the search for a key, which a private function promises.
 use Rattle.std.specs.Prelude.{ℕ, ◌≡◌, ◌<◌, T, List, length, Some}
 use Rattle.std.specs.Ordering.{nat_cmp}
 use Rattle.std.specs.Cmp.Lexicographic.{slice_cmp}

@@ -1,13 +1,12 @@
--- What the parts of the reader promise each other.
-use Rattle.std.specs.Prelude.{◌≡◌, ℕ, ◌+◌, List, [], ◌∷◌, ◌++◌, length, Option, Some, None, Result, Ok, Err, option_to_list}
+-- What the private parts of the reader promise each other, step by step.
+use Rattle.std.specs.Prelude.{◌≡◌, ℕ, ◌+◌, List, [], ◌∷◌, Option, Some, None, Result, Ok, Err, option_to_list}
 use Rattle.std.specs.FinMap.{entries}
 use Rattle.props_text.specs.declared.unit.Placed.{Placed}
 use Rattle.props_text.specs.declared.join.Joined.{Joined}
 use Rattle.props_text.specs.declared.join.Joined.TheVariants.{PassedOver, GoesOn, Whole}
 use Rattle.props_text.specs.declared.faults.PropsFault.{PropsFault}
-use Rattle.props_text.specs.Lines.{natural_lines}
 use Rattle.props_text.specs.Logical.{logical_lines}
-use Rattle.props_text.specs.Pairs.{Props, ◌>>=◌, with_unit, unescaped, pairs_onto, props_of}
+use Rattle.props_text.specs.Pairs.{Props, with_unit, unescaped, pairs_onto, props_of}
 use Rattle.props_text.specs.Outcome.{Fails}
 
 -- the units of a text, of which this is the first and what is behind it
@@ -15,25 +14,11 @@ abbrev pub units_behind : Option (ℕ × List Placed) → Result (List ℕ) ℕ
 units_behind None = Ok []
 units_behind (Some p) = with_unit p.0 (unescaped 0 p.1)
 
--- what is read, behind what was read before
-abbrev pub behind : List ℕ → Result (List ℕ) ℕ → Result (List ℕ) ℕ
-behind front r = r >>= λ us. Ok (front ++ us)
-
 -- the logical lines, where the natural lines behind have the numbers from n on
 abbrev pub lines_behind : Joined → ℕ → List (List ℕ) → List (List Placed)
 lines_behind PassedOver n ls = logical_lines None n ls
 lines_behind (GoesOn begun) n ls = logical_lines (Some begun.items) n ls
 lines_behind (Whole line) n ls = line.items ∷ logical_lines None n ls
-
--- the natural lines of what is left of a text, if anything is
-abbrev pub lines_left : Option (List ℕ) → List (List ℕ)
-lines_left None = []
-lines_left (Some rest) = natural_lines rest
-
--- how much is left of a text: one more than its length, if anything is
-abbrev pub size_left : Option (List ℕ) → ℕ
-size_left None = 0
-size_left (Some rest) = length rest + 1
 
 abbrev pub map_ok : {X Y E : Type 0} → (X → Y) → Result X E → Result Y E
 map_ok f (Ok x) = Ok (f x)

@@ -5,14 +5,13 @@ use Rattle.samza_model.specs.declared.checkpoints.Checkpoint.{Checkpoint}
 use Rattle.samza_model.specs.declared.setups.Setup.{Setup}
 use Rattle.samza_model.specs.Files.{Image, changelog_file}
 use Rattle.samza_model.specs.Logs.{joined, HasFrames}
-use Rattle.samza_model.specs.Restored.{HasMark, IsNamed}
-use Rattle.checkpoint_log.specs.Ends.{EndsAs}
+use Rattle.samza_model.specs.Restored.{EndsAs, HasMark, IsNamed}
 use Rattle.topic_log.specs.declared.faults.LogFault.{LogFault}
 use Rattle.topic_log.specs.declared.faults.LogFault.TheVariants.{Device, Damaged, Limit, Broken, NoMemory}
+use Rattle.topic_log.specs.Growth.{Passes}
 use Rattle.topic_log.proofs.Spelling.{frames_unique}
 use Rattle.restore_trim.specs.declared.faults.OpenFault.{OpenFault}
 use Rattle.restore_trim.specs.declared.faults.OpenFault.TheVariants.{Device as OpenDevice, Damaged as OpenDamaged, Shape, Ahead, Limit as OpenLimit, NoMemory as OpenNoMemory}
-use Rattle.restore_trim.specs.Growth.{Passes}
 use Rattle.restore_trim.specs.Refused.{HasChanges, IsMiscount, IsNoLogAt, IsOpeningOf, RevertPasses, StoreOpens, WhyNoFile, WhyNoStore}
 
 pub file_fault : (image : Image) (file : ℕ) (f : LogFault) (e : OpenFault) → IsOpeningOf file f e → f ≢ Limit → ((at : ℕ) → f ≡ Damaged at → IsNoLogAt (image file) at) → WhyNoFile image file e
@@ -111,7 +110,7 @@ module _ (image image' : Image) (store count : ℕ) (frames : List (List Record)
         passes = record {
           frames = p.passes.frames;
           cut = p.passes.cut;
-          passes = record { had = p.passes.passes.had; has = at p.passes.passes.had p.passes.passes.has; passes = p.passes.passes.passes };
+          passes = record { had = p.passes.passes.had; has = at p.passes.passes.had p.passes.passes.has; some = p.passes.passes.some; passes = p.passes.passes.passes };
         };
       }
 

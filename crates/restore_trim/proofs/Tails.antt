@@ -1,18 +1,22 @@
 -- What a crash leaves of logs that are opened and read one after another, of which some are appended to.
-use Rattle.std.proofs.Common.{ℕ, ◌≡◌, ◌≢◌, ◌≤◌, ◌<◌, inl, inr, List, [], ◌++◌, refl, sym, ◌∙◌, ap, subst, arith, append_assoc}
-use Rattle.std.proofs.lemmas.Bool.{cases_eq}
-use Rattle.std.proofs.lemmas.List.{append-nil}
+use Rattle.std.proofs.Common.{ℕ, ◌≡◌, ◌≤◌, ◌+◌, ◌⊎◌, inl, inr, List, Option, refl, sym, ◌∙◌, subst, arith}
+use Rattle.std.proofs.lemmas.Bool.{cases_lt}
 use Rattle.samza_model.specs.declared.messages.Record.{Record}
-use Rattle.samza_model.specs.Files.{Image, output_file}
-use Rattle.samza_model.specs.Logs.{HasFrames, HasNoLog}
+use Rattle.samza_model.specs.declared.checkpoints.Checkpoint.{Checkpoint}
+use Rattle.samza_model.specs.Files.{Image, changelog_file, output_file}
+use Rattle.samza_model.specs.Limits.{frame_batch}
+use Rattle.samza_model.specs.Logs.{joined, HasFrames, HasNoLog}
+use Rattle.samza_model.specs.Restored.{count_at}
 use Rattle.disk_model.specs.Images.{LeavesOnly}
 use Rattle.disk_model.proofs.Moments.{started, followed, weaker}
+use Rattle.log_frame.specs.Cuts.{IsCut}
+use Rattle.changelog.specs.Folds.{reverts_of}
 use Rattle.topic_log.specs.declared.logs.Log.{Log}
 use Rattle.topic_log.specs.Moves.{Rests, Same}
 use Rattle.topic_log.specs.Opened.{Appends, KeepsFrames}
 use Rattle.topic_log.proofs.Logged.{open_log_has}
 use Rattle.topic_log.proofs.Spelling.{frames_unique}
-use Rattle.restore_trim.specs.Crashes.{TailsGrow}
+use Rattle.restore_trim.specs.Crashes.{KeepsLog, KeepsOutputs, TakesBack, Trims, TrimsFile, TrimsFiles}
 use Rattle.restore_trim.specs.Standing.{IsOpenAt}
 
 -- a file that is the same has the same frames
@@ -24,86 +28,198 @@ pub has_frames : (reads : Image) (images : Image → Type 0) (file : ℕ) (log :
     → (c : Image) → images c → HasFrames (c file) frames
 has_frames reads images file log frames o c now = subst (λ (f : ℕ). HasFrames (c f) frames) o.file_is (open_log_has reads images log frames o.is_open c now)
 
--- nothing more
-no_more : (file : ℕ) (frames : List (List Record)) (c : Image) → HasFrames (c file) frames → (more : List (List Record)) × HasFrames (c file) (frames ++ more)
-no_more file frames c has = ([], subst (λ (fs : List (List Record)). HasFrames (c file) fs) (sym (append-nil frames)) has)
+-- ---- one file
+same_kept : (x y : List ℕ) → y ≡ x → KeepsLog x y
+same_kept x y same = record { here = λ fs has. subst (λ (b : List ℕ). HasFrames b fs) (sym same) has; lost = λ none. same }
 
-pub all_stays : (c : Image) → TailsGrow c c
-all_stays c = record { kept = λ f frames none has. has; grown = λ f frames has. no_more f frames c has; lost = λ f none. refl }
+pub log_kept : (file : ℕ) (a b : Image) → KeepsFrames file a b → KeepsLog (a file) (b file)
+log_kept file a b k = record { here = k.here; lost = k.lost }
 
-pub grows_twice : (a b c : Image) → TailsGrow a b → TailsGrow b c → TailsGrow a c
-grows_twice a b c p q = record {
-  kept = λ f frames none has. q.kept f frames none (p.kept f frames none has);
-  grown = λ f frames has.
-      let one = p.grown f frames has in
-      let two = q.grown f (frames ++ one.0) one.1 in
-      (one.0 ++ two.0, subst (λ (fs : List (List Record)). HasFrames (c f) fs) (append_assoc frames one.0 two.0) two.1);
-  lost = λ f none.
-      let same : b f ≡ a f = p.lost f none in
-      q.lost f (subst (λ (bytes : List ℕ). HasNoLog bytes) (sym same) none) ∙ same;
+kept_then : (x y z : List ℕ) → KeepsLog x y → KeepsLog y z → KeepsLog x z
+kept_then x y z p q = record {
+  here = λ fs has. q.here fs (p.here fs has);
+  lost = λ none.
+      let same : y ≡ x = p.lost none in
+      q.lost (subst (λ (b : List ℕ). HasNoLog b) (sym same) none) ∙ same;
 }
 
-kept_here : (file : ℕ) (a b : Image) → KeepsFrames file a b → (f : ℕ) (frames : List (List Record)) → HasFrames (a f) frames → HasFrames (b f) frames
-kept_here file a b k f frames has = elim (cases_eq f file) [
-  | inl e ↦ subst (λ (n : ℕ). HasFrames (b n) frames) (sym e) (k.here frames (subst (λ (n : ℕ). HasFrames (a n) frames) e has))
-  | inr ne ↦ same_has f frames a b (k.elsewhere f ne) has
-]
+trims_kept : (count : ℕ) (x y : List ℕ) → KeepsLog x y → Trims count x y
+trims_kept count x y k = record { here = λ fs has. inl (k.here fs has); lost = k.lost }
 
-keeps_grow : (file : ℕ) (a b : Image) → KeepsFrames file a b → TailsGrow a b
-keeps_grow file a b k = record {
-  kept = λ f frames none has. kept_here file a b k f frames has;
-  grown = λ f frames has. no_more f frames b (kept_here file a b k f frames has);
-  lost = λ f none. elim (cases_eq f file) [
-    | inl e ↦
-        let here : b file ≡ a file = k.lost (subst (λ (n : ℕ). HasNoLog (a n)) e none) in
-        ap b e ∙ here ∙ ap a (sym e)
-    | inr ne ↦ k.elsewhere f ne
-  ];
+kept_trims : (count : ℕ) (x y z : List ℕ) → KeepsLog x y → Trims count y z → Trims count x z
+kept_trims count x y z p q = record {
+  here = λ fs has. q.here fs (p.here fs has);
+  lost = λ none.
+      let same : y ≡ x = p.lost none in
+      q.lost (subst (λ (b : List ℕ). HasNoLog b) (sym same) none) ∙ same;
 }
 
--- a changelog's file is appended to
-appends_grow : (file : ℕ) (had more : List (List Record)) (a b : Image) → 0 < file → file < output_file 0 → HasFrames (a file) had → Appends file had more a b → TailsGrow a b
-appends_grow file had more a b low high was step = record {
-  kept = λ f frames none has.
-      let other : f ≢ file = λ e. elim none [ inl zero ↦ absurd (omega (arith, zero, e, low)) | inr behind ↦ absurd (omega (arith, behind, e, high)) ] in
-      same_has f frames a b (step.elsewhere f other) has;
-  grown = λ f frames has. elim (cases_eq f file) [
-    | inl e ↦
-        let same : had ≡ frames = frames_unique (a file) had frames was (subst (λ (n : ℕ). HasFrames (a n) frames) e has) in
-        let here : (m : List (List Record)) × HasFrames (b file) (had ++ m) = elim step.here [
-          | inl now ↦ no_more file had b now
-          | inr now ↦ (more, now)
+-- ---- one store: its changelog is opened, and perhaps appended to
+pub keeps_file : (file count : ℕ) (a b : Image) → KeepsFrames file a b → TrimsFile file count a b
+keeps_file file count a b k = record { here = trims_kept count (a file) (b file) (log_kept file a b k); elsewhere = k.elsewhere }
+
+same_file : (file count : ℕ) (a : Image) → TrimsFile file count a a
+same_file file count a = record { here = trims_kept count (a file) (a file) (same_kept (a file) (a file) refl); elsewhere = λ f other. refl }
+
+keeps_then : (file count : ℕ) (a b c : Image) → KeepsFrames file a b → TrimsFile file count b c → TrimsFile file count a c
+keeps_then file count a b c k t = record {
+  here = kept_trims count (a file) (b file) (c file) (log_kept file a b k) t.here;
+  elsewhere = λ f other. t.elsewhere f other ∙ k.elsewhere f other;
+}
+
+appends_file : (file count : ℕ) (had more : List (List Record)) (a b : Image) → IsCut frame_batch (reverts_of count (joined had)) more → HasFrames (a file) had
+    → Appends file had more a b → TrimsFile file count a b
+appends_file file count had more a b cut was step = record {
+  here = record {
+    here = λ frames has.
+        let same : had ≡ frames = frames_unique (a file) had frames was has in
+        let Left : List (List Record) → Type 0 = λ fs. HasFrames (b file) fs ⊎ TakesBack count fs (b file) in
+        let here : Left had = elim step.here [
+          | inl now ↦ inl now
+          | inr now ↦ inr (record { reverts = more; cut = cut; has = now })
         ] in
-        (here.0, subst (λ (n : ℕ). HasFrames (b n) (frames ++ here.0)) (sym e) (subst (λ (fs : List (List Record)). HasFrames (b file) (fs ++ here.0)) same here.1))
-    | inr ne ↦ no_more f frames b (same_has f frames a b (step.elsewhere f ne) has)
-  ];
-  lost = λ f none. step.elsewhere f (λ e. absurd (none had (subst (λ (n : ℕ). HasFrames (a n) had) (sym e) was)));
+        subst Left same here;
+    lost = λ none. absurd (none had was);
+  };
+  elsewhere = step.elsewhere;
 }
 
+-- ---- several stores
+pub no_stores : (mark : Option Checkpoint) (a : Image) → TrimsFiles mark 0 a a
+no_stores mark a = record { each = λ i lt. absurd (omega arith); elsewhere = λ f out. refl }
+
+-- the stores that weren't opened are as they were
+pub all_stores : (mark : Option Checkpoint) (n m : ℕ) (a b : Image) → n ≤ m → TrimsFiles mark n a b → TrimsFiles mark m a b
+all_stores mark n m a b le t = record {
+  each = λ i lt. elim (cases_lt i n) [
+    | inl low ↦ t.each i low
+    | inr high ↦ trims_kept (count_at mark i) (a (changelog_file i)) (b (changelog_file i)) (same_kept (a (changelog_file i)) (b (changelog_file i)) (t.elsewhere (changelog_file i) (inr (omega (arith, high)))))
+  ];
+  elsewhere = λ f out. elim out [
+    | inl low ↦ t.elsewhere f (inl low)
+    | inr high ↦ t.elsewhere f (inr (omega (arith, high, le)))
+  ];
+}
+
+one_store : (mark : Option Checkpoint) (n : ℕ) (a b c : Image) → TrimsFiles mark n a b → TrimsFile (changelog_file n) (count_at mark n) b c → TrimsFiles mark (n + 1) a c
+one_store mark n a b c t one = record {
+  each = λ i lt. elim (cases_lt i n) [
+    | inl low ↦
+        let same : c (changelog_file i) ≡ b (changelog_file i) = one.elsewhere (changelog_file i) (λ e. absurd (omega (arith, e, low))) in
+        subst (λ (y : List ℕ). Trims (count_at mark i) (a (changelog_file i)) y) (sym same) (t.each i low)
+    | inr high ↦
+        let e : n ≡ i = omega (arith, high, lt) in
+        let same : b (changelog_file n) ≡ a (changelog_file n) = t.elsewhere (changelog_file n) (inr (omega arith)) in
+        subst (λ (k : ℕ). Trims (count_at mark k) (a (changelog_file k)) (c (changelog_file k))) e
+        (subst (λ (x : List ℕ). Trims (count_at mark n) x (c (changelog_file n))) same one.here)
+  ];
+  elsewhere = λ f out. elim out [
+    | inl low ↦ one.elsewhere f (λ e. absurd (omega (arith, e, low))) ∙ t.elsewhere f (inl low)
+    | inr high ↦ one.elsewhere f (λ e. absurd (omega (arith, e, high))) ∙ t.elsewhere f (inr (omega (arith, high)))
+  ];
+}
+
+-- ---- several outputs
+pub no_outputs : (a : Image) → KeepsOutputs 0 a a
+no_outputs a = record { each = λ j lt. absurd (omega arith); elsewhere = λ f out. refl }
+
+pub all_outputs : (n m : ℕ) (a b : Image) → n ≤ m → KeepsOutputs n a b → KeepsOutputs m a b
+all_outputs n m a b le t = record {
+  each = λ j lt. elim (cases_lt j n) [
+    | inl low ↦ t.each j low
+    | inr high ↦ same_kept (a (output_file j)) (b (output_file j)) (t.elsewhere (output_file j) (inr (omega (arith, high))))
+  ];
+  elsewhere = λ f out. elim out [
+    | inl low ↦ t.elsewhere f (inl low)
+    | inr high ↦ t.elsewhere f (inr (omega (arith, high, le)))
+  ];
+}
+
+one_output : (n : ℕ) (a b c : Image) → KeepsOutputs n a b → KeepsFrames (output_file n) b c → KeepsOutputs (n + 1) a c
+one_output n a b c t one = record {
+  each = λ j lt. elim (cases_lt j n) [
+    | inl low ↦
+        let same : c (output_file j) ≡ b (output_file j) = one.elsewhere (output_file j) (λ e. absurd (omega (arith, e, low))) in
+        subst (λ (y : List ℕ). KeepsLog (a (output_file j)) y) (sym same) (t.each j low)
+    | inr high ↦
+        let e : n ≡ j = omega (arith, high, lt) in
+        let same : b (output_file n) ≡ a (output_file n) = t.elsewhere (output_file n) (inr (omega arith)) in
+        subst (λ (k : ℕ). KeepsLog (a (output_file k)) (c (output_file k))) e
+        (subst (λ (x : List ℕ). KeepsLog x (c (output_file n))) same (log_kept (output_file n) b c one))
+  ];
+  elsewhere = λ f out. elim out [
+    | inl low ↦ one.elsewhere f (λ e. absurd (omega (arith, e, low))) ∙ t.elsewhere f (inl low)
+    | inr high ↦ one.elsewhere f (λ e. absurd (omega (arith, e, high))) ∙ t.elsewhere f (inr (omega (arith, high)))
+  ];
+}
+
+-- ---- the disk
 module _ {D : Type 0} (reads : D → Image) (number : D → ℕ) (images : D → Image → Type 0) (since : D → ℕ → Image → Type 0) where
-  pub grows_none : (old : D) → ((c : Image) → since old (number old) c → images old c) → LeavesOnly number images since old old TailsGrow
-  grows_none old only = started number images since old TailsGrow only (λ c now. (c, now, all_stays c))
+  -- a log that was opened is read
+  pub keeps_read : (old mid new : D) (file : ℕ) → ((k : ℕ) (c : Image) → k ≤ number mid → images mid c → since mid k c) → LeavesOnly number images since old mid (KeepsFrames file) → Rests reads number images since mid new
+      → LeavesOnly number images since old new (KeepsFrames file)
+  keeps_read old mid new file counts one two =
+      followed number images since old mid new (KeepsFrames file) Same (KeepsFrames file) counts one two.moves.moment
+      (λ a b c p same. subst (λ (d : Image). KeepsFrames file a d) (sym same) p) (λ a b p. p)
 
-  -- one log is opened
-  pub grows_file : (old new : D) (file : ℕ) → LeavesOnly number images since old new (KeepsFrames file) → LeavesOnly number images since old new TailsGrow
-  grows_file old new file run = weaker number images since old new (KeepsFrames file) TailsGrow run (λ a b now k. keeps_grow file a b k)
+  -- a changelog is opened
+  pub trims_open : (old new : D) (file count : ℕ) → LeavesOnly number images since old new (KeepsFrames file) → LeavesOnly number images since old new (TrimsFile file count)
+  trims_open old new file count run = weaker number images since old new (KeepsFrames file) (TrimsFile file count) run (λ a b now k. keeps_file file count a b k)
 
-  -- one changelog is appended to
-  pub grows_append : (old new : D) (file : ℕ) (log : Log) (had more : List (List Record)) → 0 < file → file < output_file 0 → IsOpenAt (reads old) (images old) file log had
-      → LeavesOnly number images since old new (Appends file had more) → LeavesOnly number images since old new TailsGrow
-  grows_append old new file log had more low high o run =
-      weaker number images since old new (Appends file had more) TailsGrow run
-      (λ a b now step. appends_grow file had more a b low high (has_frames (reads old) (images old) file log had o a now) step)
+  -- and then more is done to it
+  pub trims_opened : (old mid new : D) (file count : ℕ) → ((k : ℕ) (c : Image) → k ≤ number mid → images mid c → since mid k c)
+      → LeavesOnly number images since old mid (KeepsFrames file) → LeavesOnly number images since mid new (TrimsFile file count) → LeavesOnly number images since old new (TrimsFile file count)
+  trims_opened old mid new file count counts one two =
+      followed number images since old mid new (KeepsFrames file) (TrimsFile file count) (TrimsFile file count) counts one two (keeps_then file count) (keeps_file file count)
 
-  -- logs are read
-  pub grows_read : (old new : D) → Rests reads number images since old new → LeavesOnly number images since old new TailsGrow
-  grows_read old new run = weaker number images since old new Same TailsGrow run.moves.moment (λ a b now same. subst (λ (c : Image). TailsGrow a c) (sym same) (all_stays a))
+  -- it is read
+  pub trims_read : (old new : D) (file count : ℕ) → Rests reads number images since old new → LeavesOnly number images since old new (TrimsFile file count)
+  trims_read old new file count run =
+      weaker number images since old new Same (TrimsFile file count) run.moves.moment (λ a b now same. subst (λ (c : Image). TrimsFile file count a c) (sym same) (same_file file count a))
 
-  -- a run after a run
-  pub grows_then : (old mid new : D) → ((k : ℕ) (c : Image) → k ≤ number mid → images mid c → since mid k c)
-      → LeavesOnly number images since old mid TailsGrow → LeavesOnly number images since mid new TailsGrow → LeavesOnly number images since old new TailsGrow
-  grows_then old mid new counts one two = followed number images since old mid new TailsGrow TailsGrow TailsGrow counts one two grows_twice (λ a b p. p)
+  -- it is read, and then appended to
+  pub trims_append : (old mid new : D) (file count : ℕ) (log : Log) (had more : List (List Record)) → ((k : ℕ) (c : Image) → k ≤ number mid → images mid c → since mid k c)
+      → IsCut frame_batch (reverts_of count (joined had)) more → IsOpenAt (reads mid) (images mid) file log had
+      → Rests reads number images since old mid → LeavesOnly number images since mid new (Appends file had more) → LeavesOnly number images since old new (TrimsFile file count)
+  trims_append old mid new file count log had more counts cut o read run =
+      followed number images since old mid new Same (TrimsFile file count) (TrimsFile file count) counts read.moves.moment
+      (weaker number images since mid new (Appends file had more) (TrimsFile file count) run
+      (λ a b now step. appends_file file count had more a b cut (has_frames (reads mid) (images mid) file log had o a now) step))
+      (λ a b c same t. subst (λ (d : Image). TrimsFile file count d c) same t)
+      (λ a b same. subst (λ (d : Image). TrimsFile file count a d) (sym same) (same_file file count a))
+
+  -- the stores so far, and one more
+  pub stores_left : (old : D) (mark : Option Checkpoint) → ((c : Image) → since old (number old) c → images old c) → LeavesOnly number images since old old (TrimsFiles mark 0)
+  stores_left old mark only = started number images since old (TrimsFiles mark 0) only (λ c now. (c, now, no_stores mark c))
+
+  pub stores_then : (old mid new : D) (mark : Option Checkpoint) (n : ℕ) → ((k : ℕ) (c : Image) → k ≤ number mid → images mid c → since mid k c)
+      → LeavesOnly number images since old mid (TrimsFiles mark n) → LeavesOnly number images since mid new (TrimsFile (changelog_file n) (count_at mark n))
+      → LeavesOnly number images since old new (TrimsFiles mark (n + 1))
+  stores_then old mid new mark n counts one two =
+      followed number images since old mid new (TrimsFiles mark n) (TrimsFile (changelog_file n) (count_at mark n)) (TrimsFiles mark (n + 1)) counts one two
+      (one_store mark n) (λ a b t. all_stores mark n (n + 1) a b (omega arith) t)
+
+  pub stores_done : (old new : D) (mark : Option Checkpoint) (n m : ℕ) → n ≤ m → LeavesOnly number images since old new (TrimsFiles mark n) → LeavesOnly number images since old new (TrimsFiles mark m)
+  stores_done old new mark n m le run = weaker number images since old new (TrimsFiles mark n) (TrimsFiles mark m) run (λ a b now t. all_stores mark n m a b le t)
+
+  -- the outputs so far, and one more
+  pub outputs_left : (old : D) → ((c : Image) → since old (number old) c → images old c) → LeavesOnly number images since old old (KeepsOutputs 0)
+  outputs_left old only = started number images since old (KeepsOutputs 0) only (λ c now. (c, now, no_outputs c))
+
+  pub outputs_then : (old mid new : D) (n : ℕ) → ((k : ℕ) (c : Image) → k ≤ number mid → images mid c → since mid k c)
+      → LeavesOnly number images since old mid (KeepsOutputs n) → LeavesOnly number images since mid new (KeepsFrames (output_file n)) → LeavesOnly number images since old new (KeepsOutputs (n + 1))
+  outputs_then old mid new n counts one two =
+      followed number images since old mid new (KeepsOutputs n) (KeepsFrames (output_file n)) (KeepsOutputs (n + 1)) counts one two
+      (one_output n) (λ a b t. all_outputs n (n + 1) a b (omega arith) t)
+
+  pub outputs_done : (old new : D) (n m : ℕ) → n ≤ m → LeavesOnly number images since old new (KeepsOutputs n) → LeavesOnly number images since old new (KeepsOutputs m)
+  outputs_done old new n m le run = weaker number images since old new (KeepsOutputs n) (KeepsOutputs m) run (λ a b now t. all_outputs n m a b le t)
+
+  -- what a read gives is an image after the step
+  pub read_left : (old new : D) (step : Image → Image → Type 0) → ((k : ℕ) (c : Image) → k ≤ number new → images new c → since new k c) → images new (reads new)
+      → LeavesOnly number images since old new step → (d : Image) × images old d × step d (reads new)
+  read_left old new step counts now run = run.each (reads new) (counts (number old) (reads new) run.later now)
 
   -- the logs so far
-  pub record GrowSoFar (tells : Type 0) (old cur : D) : Type 0 where
-    pub moment : tells → LeavesOnly number images since old cur TailsGrow
+  pub record LeftSoFar (tells : Type 0) (old cur : D) (step : Image → Image → Type 0) : Type 0 where
+    pub moment : tells → LeavesOnly number images since old cur step

@@ -1,24 +1,25 @@
 -- A changelog of which the first records are counted, and what takes the others back.
-use Rattle.std.proofs.Common.{ℕ, ◌≡◌, ◌<◌, ◌≤◌, ◌+◌, ◌^◌, List, [], ◌++◌, length, sym, ◌∙◌, ap, subst, arith}
+use Rattle.std.proofs.Common.{ℕ, ◌≡◌, ◌<◌, ◌≤◌, List, [], ◌++◌, length, sym, ◌∙◌, ap, subst, arith}
 use Rattle.std.proofs.lemmas.List.{append-nil, take_all}
 use Rattle.samza_model.specs.declared.messages.Record.{Record}
 use Rattle.samza_model.specs.Content.{Content, foldrec}
 use Rattle.samza_model.specs.Files.{Image, changelog_file}
+use Rattle.samza_model.specs.Limits.{frame_batch}
 use Rattle.samza_model.specs.Logs.{joined}
+use Rattle.kv_store.specs.Tracked.{records_of}
 use Rattle.log_frame.specs.Cuts.{IsCut}
 use Rattle.log_frame.specs.Frame.{FrameView, AreFrames}
 use Rattle.topic_log.specs.declared.logs.Log.{Log}
 use Rattle.topic_log.specs.Opened.{count_of, size_of}
-use Rattle.topic_log.specs.Steps.{closed_frames}
+use Rattle.topic_log.specs.Growth.{HasRoom, LacksRoom, PassesBy}
 use Rattle.topic_log.proofs.Spelling.{frames_unique, joined-append}
-use Rattle.changelog.specs.Folds.{IsFold, records_at, reverts_of}
-use Rattle.changelog.proofs.Reverting.{foldrec-reverts_of, records_at-fold, reverts_of-none}
-use Rattle.restore_trim.specs.Growth.{PassesBy}
+use Rattle.changelog.specs.Folds.{IsFold, reverts_of}
+use Rattle.changelog.proofs.Reverting.{foldrec-reverts_of, records_of-fold, reverts_of-none}
 use Rattle.restore_trim.specs.Refused.{HasChanges, RevertPasses, StoreOpens}
 use Rattle.restore_trim.specs.Standing.{HoldsStore, IsOpenAt}
 use Rattle.restore_trim.proofs.Growing.{cut_passes, lacks_passes, open_has}
 
-no_cut : (records : List Record) → records ≡ [] → IsCut 500 records []
+no_cut : (records : List Record) → records ≡ [] → IsCut frame_batch records []
 no_cut records none = record { whole = sym none; each = tt; full = tt }
 
 module _ (reads : Image) (images : Image → Type 0) (store count : ℕ) (log : Log) (frames : List (List Record))
@@ -56,9 +57,9 @@ module _ (reads : Image) (images : Image → Type 0) (store count : ℕ) (log : 
     }
 
   -- there are more
-  module _ (enough : count ≤ count_of log) (lists : List (List Record)) (cut : IsCut 500 (records_at content touched) lists) where
-    cut_is : IsCut 500 (reverts_of count (joined frames)) lists
-    cut_is = subst (λ (rs : List Record). IsCut 500 rs lists) (records_at-fold count (joined frames) content touched fold) cut
+  module _ (enough : count ≤ count_of log) (lists : List (List Record)) (cut : IsCut frame_batch (records_of content touched) lists) where
+    cut_is : IsCut frame_batch (reverts_of count (joined frames)) lists
+    cut_is = subst (λ (rs : List Record). IsCut frame_batch rs lists) (records_of-fold count (joined frames) content touched fold) cut
 
     pub taken_back : (reads' : Image) (images' : Image → Type 0) (log' : Log) → IsOpenAt reads' images' (changelog_file store) log' (frames ++ lists) → HoldsStore reads reads' images' (changelog_file store) count log' content
     taken_back reads' images' log' o' = record {
@@ -76,18 +77,18 @@ module _ (reads : Image) (images : Image → Type 0) (store count : ℕ) (log : 
     }
 
     module _ (appended : List FrameView) (are : AreFrames appended lists) where
-      pub taken_opens : size_of log + length (closed_frames appended) ≤ 2 ^ 40 → StoreOpens reads store count
+      pub taken_opens : HasRoom (size_of log) appended → StoreOpens reads store count
       taken_opens room = record {
         held = count_of log;
         has = changes;
         enough = enough;
         room = λ p.
             let same = ap (λ (fs : List (List Record)). reverts_of count (joined fs)) (same_frames p) in
-            cut_passes reads images (changelog_file store) log frames o 500 (reverts_of count (joined frames)) appended lists cut_is are room
-            (subst (λ (rs : List Record). PassesBy (reads (changelog_file store)) 500 rs) same p.passes);
+            cut_passes reads images (changelog_file store) log frames o frame_batch (reverts_of count (joined frames)) appended lists cut_is are room
+            (subst (λ (rs : List Record). PassesBy (reads (changelog_file store)) frame_batch rs) same p.passes);
       }
 
-      pub lacks_room : count < count_of log → 2 ^ 40 < size_of log + length (closed_frames appended) → RevertPasses reads store count
+      pub lacks_room : count < count_of log → LacksRoom (size_of log) appended → RevertPasses reads store count
       lacks_room more lacks = record {
         frames = frames;
         has = open_has reads images (changelog_file store) log frames o;

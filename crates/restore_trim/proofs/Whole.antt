@@ -11,11 +11,10 @@ use Rattle.disk_model.specs.Images.{SameElsewhere}
 use Rattle.topic_log.specs.declared.logs.Log.{Log}
 use Rattle.topic_log.specs.Opened.{file_of, IsOpen}
 use Rattle.restore_trim.specs.declared.faults.OpenFault.{OpenFault}
-use Rattle.restore_trim.specs.Refused.{OutputsHold, StoresOpen, WhyNoStores, WhyNoOutputs, StoresRefused}
+use Rattle.restore_trim.specs.Refused.{StoresOpen, WhyNoStores, WhyNoOutputs, StoresRefused}
 use Rattle.restore_trim.specs.Standing.{IsOpenAt, HoldsMark, HoldsStores, HoldsOutputs, SameFrom}
 use Rattle.restore_trim.proofs.Logs.{still_held, stands_was}
 use Rattle.restore_trim.proofs.Openings.{no_store_was, no_file_was, store_opened}
-use Rattle.restore_trim.proofs.SoFar.{outputs_hold}
 
 -- a log that stays open at its file
 pub open_kept : (reads reads' : Image) (images images' : Image → Type 0) (f : ℕ) (log : Log) (frames : List (List Record))
@@ -47,11 +46,6 @@ module _ (s : Setup) (r0 r1 r2 : Image) (i1 i2 : Image → Type 0) (marks : Log)
     (hs : HoldsStores r1 r2 i2 mark n changelogs stores) (behind : SameFrom (changelog_file n) r1 r2) where
   output_same : (j : ℕ) → r2 (output_file j) ≡ r0 (output_file j)
   output_same j = behind (output_file j) (omega (arith, few)) ∙ same (output_file j) (λ q. absurd (omega (arith, q)))
-
-  pub outputs_held : (r3 : Image) (i3 : Image → Type 0) (m : ℕ) (outputs : List Log) → HoldsOutputs r2 r3 i3 m outputs → OutputsHold r0 m
-  outputs_held r3 i3 m outputs ho j lt =
-      let log = outputs_hold r2 r3 i3 m outputs ho j lt in
-      (log.0, subst (λ b. HasFrames b log.0) (output_same j) log.1)
 
   pub outputs_refused : (m : ℕ) (e : OpenFault) → WhyNoOutputs r2 m e → WhyNoOutputs r0 m e
   outputs_refused m e why = record {

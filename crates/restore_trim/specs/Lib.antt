@@ -1,5 +1,3 @@
 pub mod Crashes
-pub mod Growth
-pub mod Naming
 pub mod Refused
 pub mod Standing

@@ -3,15 +3,17 @@ use Rattle.std.specs.Prelude.{ℕ, ◌≡◌, ◌<◌, ◌≤◌, ◌⊎◌, Lis
 use Rattle.samza_model.specs.declared.messages.Record.{Record}
 use Rattle.samza_model.specs.declared.checkpoints.Checkpoint.{Checkpoint}
 use Rattle.samza_model.specs.declared.setups.Setup.{Setup}
+use Rattle.samza_model.specs.Content.{Content}
 use Rattle.samza_model.specs.Files.{Image, checkpoint_file, changelog_file, output_file}
+use Rattle.samza_model.specs.Limits.{frame_batch}
 use Rattle.samza_model.specs.Logs.{joined, HasFrames, HasNoLog}
-use Rattle.samza_model.specs.Restored.{count_at, EndsWith, IsNamed, IsMarked}
+use Rattle.samza_model.specs.Restored.{count_at, EndsWith, IsNamed, IsMarked, Restores}
 use Rattle.restore_trim.specs.declared.faults.OpenFault.{OpenFault}
 use Rattle.restore_trim.specs.declared.faults.OpenFault.TheVariants.{Device, Damaged, Shape, Ahead, Limit, NoMemory}
 use Rattle.checkpoint_log.specs.Ends.{IsBadEnd}
 use Rattle.changelog.specs.Folds.{reverts_of}
-use Rattle.restore_trim.specs.Growth.{PassesBy}
 use Rattle.topic_log.specs.Damage.{IsDamagedAt}
+use Rattle.topic_log.specs.Growth.{PassesBy}
 use Rattle.topic_log.specs.declared.faults.LogFault.{LogFault}
 use Rattle.topic_log.specs.declared.faults.LogFault.TheVariants.{Device as LogDevice, Damaged as LogDamaged, Limit as LogLimit, NoMemory as LogNoMemory}
 
@@ -38,6 +40,7 @@ WhyNoFile image file e = ⊥
 abbrev pub TellsFile : ℕ → OpenFault → Type 0
 TellsFile file (Damaged input f at) = (input ≡ None) × (f ≡ file)
 TellsFile file Shape = ⊥
+TellsFile file Limit = ⊥
 TellsFile file (Ahead input store wanted held) = ⊥
 TellsFile file e = Unit {0}
 
@@ -45,6 +48,7 @@ TellsFile file e = Unit {0}
 abbrev pub TellsMark : OpenFault → Type 0
 TellsMark (Damaged input f at) = (input ≡ None) × (f ≡ checkpoint_file)
 TellsMark (Ahead input store wanted held) = ⊥
+TellsMark Limit = ⊥
 TellsMark e = Unit {0}
 
 -- of a store its changelog's file, or that it holds less than is wanted,
@@ -92,12 +96,12 @@ pub record HasChanges (image : Image) (store held : ℕ) : Type 0 where
   pub has : HasFrames (image (changelog_file store)) frames
   pub held_is : held ≡ length (joined frames)
 
--- with what takes back the records behind those that are counted, in frames of at most 500, the changelog passes 2^40 bytes
+-- with what takes back the records behind those that are counted, in frames of at most frame_batch, the changelog passes its limit
 pub record RevertPasses (image : Image) (store count : ℕ) : Type 0 where
   pub frames : List (List Record)
   pub has : HasFrames (image (changelog_file store)) frames
   pub more : count < length (joined frames)
-  pub passes : PassesBy (image (changelog_file store)) 500 (reverts_of count (joined frames))
+  pub passes : PassesBy (image (changelog_file store)) frame_batch (reverts_of count (joined frames))
 
 -- a count of the checkpoint is above the number of records that there are
 abbrev pub IsMiscount : ℕ → ℕ → ℕ → OpenFault → Type 0
@@ -160,8 +164,8 @@ pub record OutputsRefused (s : Setup) (image : Image) (e : OpenFault) : Type 0 w
 abbrev pub WhyRefused : Setup → Image → OpenFault → Type 0
 WhyRefused s image e = WhyNoMark s image e ⊎ (StoresRefused s image e ⊎ OutputsRefused s image e)
 
--- the task's own files restore to this checkpoint: the image has it, each store can be opened at it, and each output's file is a log
+-- the task's own files can be opened at this checkpoint: they restore to it, with some contents, and each store can be opened at it
 pub record FilesHold (s : Setup) (image : Image) (mark : Option Checkpoint) : Type 0 where
-  pub marked : IsMarked s image mark
+  pub contents : List Content
+  pub restores : Restores s image mark contents
   pub stores : StoresOpen image mark (length s.stores)
-  pub outputs : OutputsHold image (length s.outputs)

@@ -5,8 +5,9 @@ use Rattle.samza_model.specs.declared.checkpoints.Checkpoint.{Checkpoint}
 use Rattle.samza_model.specs.declared.setups.Setup.{Setup}
 use Rattle.samza_model.specs.Content.{Content, foldrec, store_at}
 use Rattle.samza_model.specs.Files.{Image, checkpoint_file, changelog_file, output_file}
+use Rattle.samza_model.specs.Limits.{frame_batch}
 use Rattle.samza_model.specs.Logs.{joined, HasFrames}
-use Rattle.samza_model.specs.Restored.{count_at, HasMark}
+use Rattle.samza_model.specs.Restored.{count_at, store_file, HasMark}
 use Rattle.changelog.specs.Folds.{reverts_of}
 use Rattle.log_frame.specs.Cuts.{IsCut}
 use Rattle.topic_log.specs.declared.logs.Log.{Log}
@@ -29,14 +30,14 @@ pub record StandsAt (before reads : Image) (images : Image → Type 0) (file : �
   pub is_open : IsOpenAt reads images file log frames
 
 -- A store's changelog had these frames, of whose records the checkpoint counts the first, which make the content. It is open with
--- them and, behind them, what takes the others back, in frames of at most 500; so all its records make the content.
+-- them and, behind them, what takes the others back, in frames of at most frame_batch; so all its records make the content.
 pub record HoldsStore (before reads : Image) (images : Image → Type 0) (file count : ℕ) (log : Log) (content : Content) : Type 0 where
   pub frames : List (List Record)
   pub had : HasFrames (before file) frames
   pub enough : count ≤ length (joined frames)
   pub content_is : content ≡ foldrec (take count (joined frames))
   pub reverts : List (List Record)
-  pub cut : IsCut 500 (reverts_of count (joined frames)) reverts
+  pub cut : IsCut frame_batch (reverts_of count (joined frames)) reverts
   pub is_open : IsOpenAt reads images file log (frames ++ reverts)
   pub whole : content ≡ foldrec (joined (frames ++ reverts))
 
@@ -51,7 +52,7 @@ pub record HoldsMark (s : Setup) (before reads : Image) (images : Image → Type
 pub record HoldsStores (before reads : Image) (images : Image → Type 0) (mark : Option Checkpoint) (n : ℕ) (logs : List Log) (stores : List Content) : Type 0 where
   pub logs_are : length logs ≡ n
   pub stores_are : length stores ≡ n
-  pub each : (i : ℕ) (d : Log) → i < n → HoldsStore before reads images (changelog_file i) (count_at mark i) (slice_index_or logs i d) (store_at stores i)
+  pub each : (i : ℕ) (d : Log) → i < n → HoldsStore before reads images (store_file mark i) (count_at mark i) (slice_index_or logs i d) (store_at stores i)
 
 -- the first so many outputs' logs are open
 pub record HoldsOutputs (before reads : Image) (images : Image → Type 0) (n : ℕ) (logs : List Log) : Type 0 where

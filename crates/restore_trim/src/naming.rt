@@ -1,8 +1,7 @@
 // Whether a checkpoint's names are a setup's.
 ghost use Rattle.std.specs.Prelude.{◌≡◌, ◌↔◌, IfOk, IsTrue, length, map};
 ghost use Rattle.samza_model.specs.Names.{topic_of};
-ghost use Rattle.samza_model.specs.Restored.{IsNamed, marked_place, setup_place};
-ghost use Rattle.restore_trim.specs.Naming.{mark_names, setup_names};
+ghost use Rattle.samza_model.specs.Restored.{IsNamed, mark_names, marked_place, setup_names, setup_place};
 
 use samza_model::{
     Bin, Checkpoint, InputMark, InputSetup, NoMemory, Plain, Setup, Ssp, StoreMark, StoreSetup,

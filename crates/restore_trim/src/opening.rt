@@ -4,11 +4,10 @@ ghost use Rattle.samza_model.specs.declared.messages.Record.{Record};
 ghost use Rattle.samza_model.specs.declared.checkpoints.Checkpoint.{Checkpoint as CheckpointValue};
 ghost use Rattle.samza_model.specs.Counters.{Rose};
 ghost use Rattle.samza_model.specs.Files.{checkpoint_file};
-ghost use Rattle.samza_model.specs.Restored.{IsNamed};
+ghost use Rattle.samza_model.specs.Restored.{IsNamed, id_of};
 ghost use Rattle.disk_model.specs.Images.{SameElsewhere, LeavesOnly};
 ghost use Rattle.topic_log.specs.declared.logs.Log.{Log as LogValue};
-ghost use Rattle.topic_log.specs.Opened.{file_of, is_broken, IsOpen};
-ghost use Rattle.restore_trim.specs.Crashes.{TailsGrow};
+ghost use Rattle.topic_log.specs.Opened.{file_of, count_of, is_broken, IsOpen, KeepsFrames};
 ghost use Rattle.restore_trim.specs.Refused.{IsOpeningOf, TellsFile, TellsMark, WhyNoFile, WhyNoMark};
 ghost use Rattle.restore_trim.specs.Standing.{StandsAt, HoldsMark};
 
@@ -46,8 +45,9 @@ pub(crate) fn open_file<D: Disk>(alloc: Global, disk: &mut D, file: u32) -> Resu
     ensures others { D.tells → (log : LogValue) (frames : List (List Record)) → file_of log ≢ file → IsOpen (D.reads disk.old) (D.images disk.old) log frames → IsOpen (D.reads disk.new) (D.images disk.new) log frames }
     ensures why { IfErr result (λ e. D.tells → WhyNoFile (D.reads disk.old) file e) }
     ensures told { IfErr result (TellsFile file) }
-    // A crash at any moment leaves each file the frames that it had, or, of a changelog, with more behind them.
-    ensures any_moment { D.tells → LeavesOnly D.call_number D.images D.images_since disk.old disk.new TailsGrow }
+    // A crash at any moment leaves the file the frames that it had, and the other files as they were.
+    ensures any_moment { D.tells → LeavesOnly D.call_number D.images D.images_since disk.old disk.new (KeepsFrames file) }
+    ensures refused { IfErr result (λ e. e ≢ OpenFault.Device → D.tells → D.reads disk.new ≡ D.reads disk.old) }
     ensures device { IfErr result (λ e. e ≡ OpenFault.Device → Rose (D.fault_count disk.old) (D.fault_count disk.new)) }
     ensures later { D.fault_count disk.old ≤ D.fault_count disk.new }
     ensures name { D.name disk.new ≡ D.name disk.old }
@@ -78,10 +78,13 @@ pub(crate) fn open_marks<D: Disk>(
     ensures mark { IfOk result (λ r. D.tells → HoldsMark setup.now (D.reads disk.old) (D.reads disk.new) (D.images disk.new) r.0 r.1) }
     ensures elsewhere { OnOk result (D.tells → SameElsewhere checkpoint_file (D.reads disk.old) (D.reads disk.new)) }
     ensures sound { IfOk result (λ r. is_broken r.0 ≡ false) }
+    // On every disk the checkpoint's number is the number of records of its file.
+    ensures counted { IfOk result (λ r. count_of r.0 ≡ id_of r.1) }
     ensures named { IfOk result (λ r. (k : CheckpointValue) → r.1 ≡ Some k → IsNamed setup.now k) }
     ensures why { IfErr result (λ e. D.tells → WhyNoMark setup.now (D.reads disk.old) e) }
     ensures told { IfErr result TellsMark }
-    ensures any_moment { D.tells → LeavesOnly D.call_number D.images D.images_since disk.old disk.new TailsGrow }
+    ensures any_moment { D.tells → LeavesOnly D.call_number D.images D.images_since disk.old disk.new (KeepsFrames checkpoint_file) }
+    ensures refused { IfErr result (λ e. e ≢ OpenFault.Device → D.tells → SameElsewhere checkpoint_file (D.reads disk.old) (D.reads disk.new)) }
     ensures device { IfErr result (λ e. e ≡ OpenFault.Device → Rose (D.fault_count disk.old) (D.fault_count disk.new)) }
     ensures later { D.fault_count disk.old ≤ D.fault_count disk.new }
     ensures name { D.name disk.new ≡ D.name disk.old }

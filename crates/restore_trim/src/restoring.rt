@@ -1,15 +1,16 @@
 // A task's files, opened and restored to the last checkpoint.
-ghost use Rattle.std.specs.Prelude.{◌≡◌, ◌<◌, ◌≤◌, ◌^◌, false, All, List, length, Some, IfOk, IfErr, OnOk};
+ghost use Rattle.std.specs.Prelude.{◌≡◌, ◌≢◌, ◌<◌, ◌≤◌, ◌^◌, false, All, List, length, Some, IfOk, IfErr, OnOk};
 ghost use Rattle.samza_model.specs.declared.messages.Record.{Record};
 ghost use Rattle.samza_model.specs.declared.checkpoints.Checkpoint.{Checkpoint as CheckpointValue};
 ghost use Rattle.samza_model.specs.Counters.{Rose};
 ghost use Rattle.samza_model.specs.Files.{Image, checkpoint_file, changelog_file, output_file};
-ghost use Rattle.samza_model.specs.Restored.{Restores, IsNamed, count_at};
+ghost use Rattle.samza_model.specs.Limits.{output_limit, store_limit};
+ghost use Rattle.samza_model.specs.Restored.{Restores, IsNamed, count_at, id_of};
 ghost use Rattle.disk_model.specs.Images.{LeavesOnly};
 ghost use Rattle.kv_store.specs.Tracked.{AreWithinLimits};
 ghost use Rattle.topic_log.specs.declared.logs.Log.{Log as LogValue};
-ghost use Rattle.topic_log.specs.Opened.{file_of, is_broken, IsOpen};
-ghost use Rattle.restore_trim.specs.Crashes.{OpeningLeaves, TailsGrow};
+ghost use Rattle.topic_log.specs.Opened.{file_of, count_of, is_broken, IsOpen};
+ghost use Rattle.restore_trim.specs.Crashes.{KeepsOutputs, OpeningLeaves, TrimsFiles};
 ghost use Rattle.restore_trim.specs.Refused.{FilesHold, StoresOpen, TellsFiles, TellsOutputs, TellsStores, WhyNoStores, WhyNoOutputs, WhyRefused};
 ghost use Rattle.restore_trim.specs.Standing.{AllSound, HoldsStores, HoldsOutputs, IsRestored, OthersStay, SameFrom, SameOutside};
 
@@ -69,7 +70,8 @@ fn open_stores<D: Disk>(
     ensures others { OnOk result (D.tells → (log : LogValue) (frames : List (List Record)) → file_of log ≡ checkpoint_file → IsOpen (D.reads disk.old) (D.images disk.old) log frames → IsOpen (D.reads disk.new) (D.images disk.new) log frames) }
     ensures why { IfErr result (λ e. D.tells → WhyNoStores (D.reads disk.old) mark.now stores e) }
     ensures told { IfErr result (TellsStores stores) }
-    ensures any_moment { D.tells → LeavesOnly D.call_number D.images D.images_since disk.old disk.new TailsGrow }
+    ensures any_moment { D.tells → LeavesOnly D.call_number D.images D.images_since disk.old disk.new (TrimsFiles mark.now stores) }
+    ensures refused { IfErr result (λ e. e ≢ OpenFault.Device → D.tells → SameFrom (changelog_file stores) (D.reads disk.old) (D.reads disk.new)) }
     ensures device { IfErr result (λ e. e ≡ OpenFault.Device → Rose (D.fault_count disk.old) (D.fault_count disk.new)) }
     ensures later { D.fault_count disk.old ≤ D.fault_count disk.new }
     ensures name { D.name disk.new ≡ D.name disk.old }
@@ -103,7 +105,8 @@ fn open_outputs<D: Disk>(alloc: Global, disk: &mut D, outputs: u32) -> Result<Ve
     ensures others { OnOk result (D.tells → (log : LogValue) (frames : List (List Record)) → file_of log < output_file 0 → IsOpen (D.reads disk.old) (D.images disk.old) log frames → IsOpen (D.reads disk.new) (D.images disk.new) log frames) }
     ensures why { IfErr result (λ e. D.tells → WhyNoOutputs (D.reads disk.old) outputs e) }
     ensures told { IfErr result (TellsOutputs outputs) }
-    ensures any_moment { D.tells → LeavesOnly D.call_number D.images D.images_since disk.old disk.new TailsGrow }
+    ensures any_moment { D.tells → LeavesOnly D.call_number D.images D.images_since disk.old disk.new (KeepsOutputs outputs) }
+    ensures refused { IfErr result (λ e. e ≢ OpenFault.Device → D.tells → SameOutside (output_file 0) outputs (D.reads disk.old) (D.reads disk.new)) }
     ensures device { IfErr result (λ e. e ≡ OpenFault.Device → Rose (D.fault_count disk.old) (D.fault_count disk.new)) }
     ensures later { D.fault_count disk.old ≤ D.fault_count disk.new }
     ensures name { D.name disk.new ≡ D.name disk.old }
@@ -130,15 +133,19 @@ fn open_outputs<D: Disk>(alloc: Global, disk: &mut D, outputs: u32) -> Result<Ve
 /// ends with no checkpoint; `Shape` where the names are others; `Ahead` where a changelog has fewer records than the
 /// checkpoint counts; `Limit` where one would pass 2^40 bytes. `Device` comes only where the disk's count of faults rose.
 pub fn restore<D: Disk>(alloc: Global, disk: &mut D, setup: &Setup) -> Result<Restored, OpenFault>
-    requires few_stores { length setup.now.stores ≤ 8 }
-    requires few_outputs { length setup.now.outputs ≤ 8 }
+    requires few_stores { length setup.now.stores ≤ store_limit }
+    requires few_outputs { length setup.now.outputs ≤ output_limit }
 
     // The files as they read restore to the checkpoint and the contents that are handed back.
     ensures restored { IfOk result (λ r. D.tells → Restores setup.now (D.reads disk.old) r.checkpoint r.tables) }
     // The logs are open, and all records of each changelog make just its store's content.
     ensures stands { IfOk result (λ r. D.tells → IsRestored setup.now (D.reads disk.old) (D.reads disk.new) (D.images disk.new) r.checkpoint r.marks r.changelogs r.outputs r.tables) }
     ensures opens { IfOk result (λ r. D.tells → FilesHold setup.now (D.reads disk.old) r.checkpoint) }
+    // The files that are none of the task's read the same, also after a refusal but for `Device`.
     ensures others { OnOk result (D.tells → OthersStay (length setup.now.stores) (length setup.now.outputs) (D.reads disk.old) (D.reads disk.new)) }
+    ensures refused_others { IfErr result (λ e. e ≢ OpenFault.Device → D.tells → OthersStay (length setup.now.stores) (length setup.now.outputs) (D.reads disk.old) (D.reads disk.new)) }
+    // On every disk the checkpoint's number is the number of records of its file.
+    ensures counted { IfOk result (λ r. count_of r.marks ≡ id_of r.checkpoint) }
     ensures named { IfOk result (λ r. (k : CheckpointValue) → r.checkpoint ≡ Some k → IsNamed setup.now k) }
     ensures limits { IfOk result (λ r. All AreWithinLimits r.tables) }
     ensures sizes { IfOk result (λ r. (length r.tables ≡ length setup.now.stores) × (length r.changelogs ≡ length setup.now.stores) × (length r.outputs ≡ length setup.now.outputs)) }
@@ -147,8 +154,10 @@ pub fn restore<D: Disk>(alloc: Global, disk: &mut D, setup: &Setup) -> Result<Re
     ensures why { IfErr result (λ e. D.tells → WhyRefused setup.now (D.reads disk.old) e) }
     // On every disk a refusal tells a file that the task has, or a store of which more is counted than it holds.
     ensures told { IfErr result (TellsFiles (length setup.now.stores) (length setup.now.outputs)) }
-    // A crash at any moment leaves files that restore as before.
+    // A crash at any moment leaves files that restore as before, with nothing behind a changelog but its revert, and other files as
+    // they were. So does the call, whatever it answers: what a read gives then is what a crash might have left.
     ensures any_moment { D.tells → LeavesOnly D.call_number D.images D.images_since disk.old disk.new (OpeningLeaves setup.now) }
+    ensures reads { D.tells → (before : Image) × D.images disk.old before × OpeningLeaves setup.now before (D.reads disk.new) }
     // After Ok every image restores to what is handed back.
     ensures durable { IfOk result (λ r. D.tells → (c : Image) → D.images disk.new c → Restores setup.now c r.checkpoint r.tables) }
     ensures device { IfErr result (λ e. e ≡ OpenFault.Device → Rose (D.fault_count disk.old) (D.fault_count disk.new)) }

@@ -4,14 +4,14 @@ ghost use Rattle.std.specs.List.{AllByRecursion};
 ghost use Rattle.samza_model.specs.declared.messages.Record.{Record};
 ghost use Rattle.samza_model.specs.Counters.{Rose};
 ghost use Rattle.samza_model.specs.Files.{changelog_file};
+ghost use Rattle.samza_model.specs.Limits.{frame_batch, key_limit};
 ghost use Rattle.disk_model.specs.Images.{SameElsewhere, LeavesOnly};
-ghost use Rattle.kv_store.specs.Tracked.{AreWithinLimits};
+ghost use Rattle.kv_store.specs.Tracked.{AreWithinLimits, records_of};
 ghost use Rattle.log_frame.specs.Cuts.{IsCut};
 ghost use Rattle.log_frame.specs.Frame.{AreFrames};
 ghost use Rattle.topic_log.specs.declared.logs.Log.{Log as LogValue};
-ghost use Rattle.topic_log.specs.Opened.{file_of, count_of, is_broken, IsOpen};
-ghost use Rattle.changelog.specs.Folds.{records_at};
-ghost use Rattle.restore_trim.specs.Crashes.{TailsGrow};
+ghost use Rattle.topic_log.specs.Opened.{file_of, count_of, is_broken, IsOpen, KeepsFrames};
+ghost use Rattle.restore_trim.specs.Crashes.{TrimsFile};
 ghost use Rattle.restore_trim.specs.Refused.{IsMiscount, StoreOpens, TellsStore, WhyNoStore};
 ghost use Rattle.restore_trim.specs.Standing.{IsOpenAt, StandsAt, HoldsStore};
 
@@ -21,7 +21,7 @@ use changelog::{Changelog, frames_of, revert};
 use disk_model::Disk;
 use kv_store::Table;
 use log_frame::Frame;
-use samza_model::{Bin, NoMemory};
+use samza_model::{Bin, FRAME_BATCH, NoMemory};
 use std::alloc::Global;
 
 /// How many records a store's changelog has to have, against how many it has.
@@ -56,7 +56,8 @@ fn open_changes<D: Disk>(
     ensures others { D.tells → (log : LogValue) (frames : List (List Record)) → file_of log ≢ changelog_file store → IsOpen (D.reads disk.old) (D.images disk.old) log frames → IsOpen (D.reads disk.new) (D.images disk.new) log frames }
     ensures why { IfErr result (λ e. D.tells → WhyNoStore (D.reads disk.old) store count e) }
     ensures told { IfErr result (TellsStore store) }
-    ensures any_moment { D.tells → LeavesOnly D.call_number D.images D.images_since disk.old disk.new TailsGrow }
+    ensures any_moment { D.tells → LeavesOnly D.call_number D.images D.images_since disk.old disk.new (KeepsFrames (changelog_file store)) }
+    ensures refused { IfErr result (λ e. e ≢ OpenFault.Device → D.tells → SameElsewhere (changelog_file store) (D.reads disk.old) (D.reads disk.new)) }
     ensures device { IfErr result (λ e. e ≡ OpenFault.Device → Rose (D.fault_count disk.old) (D.fault_count disk.new)) }
     ensures later { D.fault_count disk.old ≤ D.fault_count disk.new }
     ensures name { D.name disk.new ≡ D.name disk.old }
@@ -75,11 +76,11 @@ fn open_changes<D: Disk>(
 /// The frames that take a changelog's last records back, of which these are the keys.
 fn revert_frames(alloc: Global, table: &Table, touched: &[Bin]) -> Result<Vec<Frame>, NoMemory>
     requires limits { AreWithinLimits table.now }
-    requires short { AllByRecursion (λ key. length key ≤ 1024) touched.now }
-    ensures { IfOk result (λ frames. (lists : List (List Record)) × IsCut 500 (records_at table.now touched.now) lists × AreFrames frames.items lists) }
+    requires short { AllByRecursion (λ key. length key ≤ key_limit) touched.now }
+    ensures { IfOk result (λ frames. (lists : List (List Record)) × IsCut frame_batch (records_of table.now touched.now) lists × AreFrames frames.items lists) }
 {
     let records = revert(alloc, table, touched)?;
-    frames_of(alloc, &records, 500)
+    frames_of(alloc, &records, FRAME_BATCH)
 }
 
 /// The content that the counted records of a changelog make. Where it has more records, what takes them back is appended.
@@ -103,7 +104,8 @@ fn take_back<D: Disk>(
     ensures others { D.tells → (log : LogValue) (frames : List (List Record)) → file_of log ≢ changelog_file store → IsOpen (D.reads disk.old) (D.images disk.old) log frames → IsOpen (D.reads disk.new) (D.images disk.new) log frames }
     ensures why { IfErr result (λ e. D.tells → WhyNoStore (D.reads disk.old) store count e) }
     ensures told { IfErr result (TellsStore store) }
-    ensures any_moment { D.tells → LeavesOnly D.call_number D.images D.images_since disk.old disk.new TailsGrow }
+    ensures any_moment { D.tells → LeavesOnly D.call_number D.images D.images_since disk.old disk.new (TrimsFile (changelog_file store) count) }
+    ensures refused { IfErr result (λ e. e ≢ OpenFault.Device → D.tells → SameElsewhere (changelog_file store) (D.reads disk.old) (D.reads disk.new)) }
     ensures device { IfErr result (λ e. e ≡ OpenFault.Device → Rose (D.fault_count disk.old) (D.fault_count disk.new)) }
     ensures later { D.fault_count disk.old ≤ D.fault_count disk.new }
     ensures name { D.name disk.new ≡ D.name disk.old }
@@ -142,7 +144,8 @@ pub(crate) fn open_store<D: Disk>(
     ensures others { D.tells → (log : LogValue) (frames : List (List Record)) → file_of log ≢ changelog_file store → IsOpen (D.reads disk.old) (D.images disk.old) log frames → IsOpen (D.reads disk.new) (D.images disk.new) log frames }
     ensures why { IfErr result (λ e. D.tells → WhyNoStore (D.reads disk.old) store count e) }
     ensures told { IfErr result (TellsStore store) }
-    ensures any_moment { D.tells → LeavesOnly D.call_number D.images D.images_since disk.old disk.new TailsGrow }
+    ensures any_moment { D.tells → LeavesOnly D.call_number D.images D.images_since disk.old disk.new (TrimsFile (changelog_file store) count) }
+    ensures refused { IfErr result (λ e. e ≢ OpenFault.Device → D.tells → SameElsewhere (changelog_file store) (D.reads disk.old) (D.reads disk.new)) }
     ensures device { IfErr result (λ e. e ≡ OpenFault.Device → Rose (D.fault_count disk.old) (D.fault_count disk.new)) }
     ensures later { D.fault_count disk.old ≤ D.fault_count disk.new }
     ensures name { D.name disk.new ≡ D.name disk.old }

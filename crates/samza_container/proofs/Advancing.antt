@@ -1,12 +1,12 @@
 -- A job that goes on by one message.
 use Rattle.std.proofs.Common.{ℕ, suc, ◌≡◌, ◌<◌, ◌≤◌, ◌+◌, ◌-◌, List, [], ◌∷◌, ◌++◌, length, map, take, drop, Option, Some, None, slice_get, sym, ap, ◌∙◌, refl, arith}
-use Rattle.std.proofs.lemmas.List.{length-drop, length-take-le, get_or-drop, take-append-drop, drop-drop, take_rest, drop_more}
+use Rattle.std.proofs.lemmas.List.{length-drop, length-take-le, get_or-drop, drop-drop, drop_more}
 use Rattle.std.specs.FinMap as fin
 use Rattle.std.specs.Ordering.{nat_cmp}
 use Rattle.std.specs.Cmp.Lexicographic.{slice_cmp}
 use Rattle.std.specs.FinMap.{len-entries, len-empty}
 use Rattle.std.proofs.lemmas.Option.{slice_get_within, get_or_from_slice_get}
-use Rattle.std.proofs.Math.Seq.{take-suc}
+use Rattle.std.proofs.Math.Seq.{take-add, take-suc}
 use Rattle.samza_model.specs.declared.messages.Record.{Record}
 use Rattle.samza_model.specs.declared.messages.Envelope.{Envelope}
 use Rattle.samza_model.specs.declared.messages.Ssp.{Ssp}
@@ -15,13 +15,18 @@ use Rattle.samza_model.specs.declared.turns.Why.{Why}
 use Rattle.samza_model.specs.Content.{State, store_at}
 use Rattle.samza_model.specs.Meaning.{Meaning}
 use Rattle.samza_model.specs.Partition.{envelopes}
+use Rattle.samza_model.proofs.Partitions.{message_in}
 use Rattle.samza_model.specs.Runs.{End, runs, folds}
-use Rattle.kv_store.specs.Tracked.{Keys, no_keys, record_now}
-use Rattle.task_unit.specs.Held.{unlogged_at}
-use Rattle.task_unit.specs.Touched.{acts_of, touched, keys_in, records_of}
+use Rattle.kv_store.specs.Tracked.{Keys, no_keys, record_now, records_of}
+use Rattle.unit_logs.specs.Held.{unlogged_at}
+use Rattle.task_unit.specs.Touched.{acts_of, touched, keys_in}
 use Rattle.task_unit.specs.Units.{IsMessage, NothingUnlogged, input_of}
 use Rattle.task_unit.proofs.Touching.{keys_in-records}
 use Rattle.samza_container.specs.Runs.{between, touched_by, AreChanges, Does}
+
+-- the message at an offset of its input
+pub message_body : (s : Setup) (messages : List Record) (offset : ℕ) (e : Envelope) → IsMessage s messages offset e → slice_get messages offset ≡ Some e.body
+message_body s messages offset e is = sym (message_in messages offset) ∙ is.body_is
 
 -- the outcome behind a turn's end
 after : End → Option State → Option State
@@ -104,7 +109,7 @@ changes_none job s messages n state unlogged none i lt =
     let nothing : 0 ≡ n - n = omega arith in
     none i lt
     ∙ ap (λ (ks : List (List ℕ)). map (record_now (store_at state.stores i)) ks) (sym keys_none)
-    ∙ ap (λ k. records_of (store_at state.stores i) (touched_by job s i (envelopes (input_of s).ssp n (take k (drop n messages))) state no_keys)) nothing
+    ∙ ap (λ k. records_of (store_at state.stores i) (fin.keys (touched_by job s i (envelopes (input_of s).ssp n (take k (drop n messages))) state no_keys))) nothing
 
 pub does_none : (job : Meaning) (s : Setup) (messages : List Record) (n : ℕ) (state : State) → Does job s messages n n state state
 does_none job s messages n state = record {
@@ -117,11 +122,11 @@ module _ (job : Meaning) (s : Setup) (messages : List Record) (from to : ℕ) (o
   one_more : envelopes (input_of s).ssp from (between messages from (to + 1)) ≡ envelopes (input_of s).ssp from (between messages from to) ++ e ∷ []
   one_more =
       let ssp = (input_of s).ssp in
-      let len = length_between messages from to does.forward (omega (arith, slice_get_within messages to e.body is.body_is)) in
+      let len = length_between messages from to does.forward (omega (arith, slice_get_within messages to e.body (message_body s messages to e is))) in
       let at : from + length (between messages from to) ≡ e.offset = omega (arith, len, does.forward, is.offset_is) in
       let one : envelopes ssp (from + length (between messages from to)) (e.body ∷ []) ≡ e ∷ [] =
       ap (λ n. record { ssp = ssp; offset = n; body = e.body } ∷ []) at ∙ ap (λ p. record { ssp = p; offset = e.offset; body = e.body } ∷ []) (sym is.ssp_is) in
-      ap (λ (l : List Record). envelopes ssp from l) (between_more messages from to does.forward e.body is.body_is)
+      ap (λ (l : List Record). envelopes ssp from l) (between_more messages from to does.forward e.body (message_body s messages to e is))
       ∙ envelopes_append ssp from (between messages from to) (e.body ∷ [])
       ∙ ap (λ (l : List Envelope). envelopes ssp from (between messages from to) ++ l) one
 
@@ -135,31 +140,35 @@ module _ (job : Meaning) (s : Setup) (messages : List Record) (from to : ℕ) (o
   }
 
   pub changes_more : (new : State) (unlogged unlogged' : List (List Record)) → AreChanges job s messages from to old mid unlogged
-      → ((i : ℕ) → i < length s.stores → unlogged_at unlogged' i ≡ records_of (store_at new.stores i) (touched i (keys_in (unlogged_at unlogged i)) (acts_of job s e mid)))
+      → ((i : ℕ) → i < length s.stores → unlogged_at unlogged' i ≡ records_of (store_at new.stores i) (fin.keys (touched i (keys_in (unlogged_at unlogged i)) (acts_of job s e mid))))
       → AreChanges job s messages from (to + 1) old new unlogged'
   changes_more new unlogged unlogged' so_far more i lt =
       let es = envelopes (input_of s).ssp from (between messages from to) in
       let keys : keys_in (unlogged_at unlogged i) ≡ touched_by job s i es old no_keys =
       ap keys_in (so_far i lt) ∙ keys_in-records (store_at mid.stores i) (touched_by job s i es old no_keys) in
       more i lt
-      ∙ ap (λ (k : Keys). records_of (store_at new.stores i) (touched i k (acts_of job s e mid))) keys
-      ∙ ap (λ (k : Keys). records_of (store_at new.stores i) k)
+      ∙ ap (λ (k : Keys). records_of (store_at new.stores i) (fin.keys (touched i k (acts_of job s e mid)))) keys
+      ∙ ap (λ (k : Keys). records_of (store_at new.stores i) (fin.keys k))
       (sym (touched_append job s i es (e ∷ []) old mid no_keys does.folded) ∙ ap (λ (l : List Envelope). touched_by job s i l old no_keys) (sym one_more))
 
-  -- all the messages are those done, then this one, then the others
-  all_split : envelopes (input_of s).ssp from (between messages from (length messages)) ≡ envelopes (input_of s).ssp from (between messages from to) ++ e ∷ envelopes (input_of s).ssp (to + 1) (drop (to + 1) messages)
-  all_split =
+  -- the messages up to an end are those done, then this one, then the others
+  split_at : (end : ℕ) → to < end → envelopes (input_of s).ssp from (between messages from end) ≡ envelopes (input_of s).ssp from (between messages from to) ++ e ∷ envelopes (input_of s).ssp (to + 1) (take (end - to - 1) (drop (to + 1) messages))
+  split_at end lt =
       let ssp = (input_of s).ssp in
-      let others = drop (to + 1) messages in
-      let inside : to < length messages = slice_get_within messages to e.body is.body_is in
+      let rest = drop (to + 1) messages in
+      let others = take (end - to - 1) rest in
+      let inside : to < length messages = slice_get_within messages to e.body (message_body s messages to e is) in
       let len = length_between messages from to does.forward (omega (arith, inside)) in
       let at : from + length (between messages from to) ≡ to = omega (arith, len, does.forward) in
       let meets : from + (to - from) ≡ to = omega (arith, does.forward) in
-      let behind : drop (to - from) (drop from messages) ≡ e.body ∷ others =
+      let parts : end - from ≡ to - from + suc (end - to - 1) = omega (arith, does.forward, lt) in
+      let behind : drop (to - from) (drop from messages) ≡ e.body ∷ rest =
       drop-drop (to - from) from messages ∙ ap (λ n. drop n messages) meets ∙ drop_more messages to e.body inside
-      ∙ ap (λ r. r ∷ others) (get_or_from_slice_get messages to e.body e.body is.body_is) in
-      let split : between messages from (length messages) ≡ between messages from to ++ e.body ∷ others =
-      take_rest messages from ∙ sym (take-append-drop (to - from) (drop from messages)) ∙ ap (λ (l : List Record). between messages from to ++ l) behind in
+      ∙ ap (λ r. r ∷ rest) (get_or_from_slice_get messages to e.body e.body (message_body s messages to e is)) in
+      let split : between messages from end ≡ between messages from to ++ e.body ∷ others =
+      ap (λ n. take n (drop from messages)) parts
+      ∙ take-add (to - from) (suc (end - to - 1)) (drop from messages)
+      ∙ ap (λ (l : List Record). between messages from to ++ take (suc (end - to - 1)) l) behind in
       let here : envelopes ssp (from + length (between messages from to)) (e.body ∷ others) ≡ e ∷ envelopes ssp (to + 1) others =
       ap (λ n. envelopes ssp n (e.body ∷ others)) at
       ∙ ap (λ n. record { ssp = ssp; offset = n; body = e.body } ∷ envelopes ssp (to + 1) others) (sym is.offset_is)
@@ -168,15 +177,15 @@ module _ (job : Meaning) (s : Setup) (messages : List Record) (from to : ℕ) (o
       ∙ envelopes_append ssp from (between messages from to) (e.body ∷ others)
       ∙ ap (λ (l : List Envelope). envelopes ssp from (between messages from to) ++ l) here
 
-  -- where the next message isn't done, all of them aren't
-  pub undone : (new : State) (why : Why) → (runs job s e mid).end ≡ Some why → Does job s messages from (length messages) old new → ⊥
+  -- where the next message isn't done, none behind it is
+  pub undone : (end : ℕ) → to < end → (new : State) (why : Why) → (runs job s e mid).end ≡ Some why → Does job s messages from end old new → ⊥
   unfolding after
-  undone new why ended all =
+  undone end lt new why ended all =
       let ssp = (input_of s).ssp in
       let es = envelopes ssp from (between messages from to) in
-      let others = envelopes ssp (to + 1) (drop (to + 1) messages) in
-      let none : folds job s (envelopes ssp from (between messages from (length messages))) old ≡ None =
-      ap (λ (l : List Envelope). folds job s l old) all_split
+      let others = envelopes ssp (to + 1) (take (end - to - 1) (drop (to + 1) messages)) in
+      let none : folds job s (envelopes ssp from (between messages from end)) old ≡ None =
+      ap (λ (l : List Envelope). folds job s l old) (split_at end lt)
       ∙ folds_append job s es (e ∷ others) old mid does.folded
       ∙ folds_more job s e others mid
       ∙ ap (λ end. after end (folds job s others (runs job s e mid).state)) ended in

@@ -1,5 +1,7 @@
 mod Advancing
+mod Ending
 mod Exact
+mod Failing
 mod Leaving
 mod Naming
 mod Passing
@@ -7,5 +9,7 @@ mod Ready
 mod Reporting
 pub mod Spelling
 mod Taking
+mod Timely
 mod Told
+mod Wording
 mod Working

@@ -1,102 +1,118 @@
--- Which faults' lines name inputs.
-use Rattle.std.proofs.Common.{ℕ, zero, suc, ◌≡◌, Bool, true, false, List, Option, Some, None, Result, Ok, Err, IfErr, length, subst, inl}
-use Rattle.std.specs.Prelude.{cond, nat_le, ◌^◌}
+-- Why a command stops before there is a task, and for its task's cause; and what that tells on every outside.
+use Rattle.std.proofs.Common.{List, ℕ, inl, inr}
 use Rattle.samza_model.specs.declared.messages.Ssp.{Ssp}
+use Rattle.samza_model.specs.declared.messages.TaskName.{TaskName}
 use Rattle.samza_model.specs.declared.setups.Setup.{Setup}
-use Rattle.disk_model.specs.declared.names.DiskName.{DiskName}
-use Rattle.job_config.specs.Asking.{Fault}
-use Rattle.job_config.specs.Table.{config_of}
-use Rattle.job_config.specs.declared.config.JobConfig.{JobConfig}
-use Rattle.props_text.specs.Pairs.{Props, props_of}
+use Rattle.disk_model.specs.Folders.{Folder}
+use Rattle.samza_model.specs.Meaning.{Meaning}
+use Rattle.unit_logs.specs.Standing.{IsSetUp}
 use Rattle.samza_container.specs.declared.faults.RunFault.{RunFault}
 use Rattle.samza_container.specs.declared.faults.RunFault.TheVariants.{Words, NoText, TextLimit, BadEscape, BadKey, NotBuilt, NoPartition, Device, NotOpened, Failed, Limit, NoMemory}
-use Rattle.samza_container.specs.Causes.{IsPastWords, IsReady, WhyNotReady}
-use Rattle.samza_container.specs.ConfigText.{of_keys, of_pairs, said_by}
-use Rattle.samza_container.specs.Configured.{Folder, configured, if_built, if_one, if_partitioned, input_disk, set_up_by, unless_asked}
-use Rattle.samza_container.specs.NotBuilt.{first_not_built}
-use Rattle.samza_container.specs.Reported.{IsNamed, IsNamedIn, IsStopped}
-use Rattle.samza_container.specs.SetUp.{setup_of}
+use Rattle.samza_container.specs.Causes.{IsOfFolder, IsReady, IsSetUpBy, IsTasks, TellsOf, WhyNotReady, WhyStopped, WhyUnfinished}
+use Rattle.samza_container.specs.Configured.{input_disk, task_disk}
+use Rattle.samza_container.specs.Reported.{IsCause, IsNamedIn, IsOf, Told}
 
--- the line of the fault names no input
-NamesNone : RunFault → Type 0
-NamesNone (NotOpened o) = ⊥
-NamesNone (Failed f) = ⊥
-NamesNone e = Unit {0}
+told_none : (words : List (List ℕ)) (task : TaskName) (inputs : List Ssp) (e : RunFault) → IsOfFolder e → Told words task inputs e
+told_none words task inputs (Words place) of = absurd of
+told_none words task inputs NoText of = tt
+told_none words task inputs TextLimit of = tt
+told_none words task inputs (BadEscape line) of = tt
+told_none words task inputs (BadKey key what) of = tt
+told_none words task inputs (NotBuilt key) of = tt
+told_none words task inputs NoPartition of = tt
+told_none words task inputs Device of = tt
+told_none words task inputs (NotOpened o) of = absurd of
+told_none words task inputs (Failed f) of = absurd of
+told_none words task inputs Limit of = tt
+told_none words task inputs NoMemory of = tt
 
-of_keys_none : (r : Result JobConfig Fault) → IfErr (of_keys r) NamesNone
-unfolding NamesNone
-of_keys_none (Ok config) = tt
-of_keys_none (Err bad) = tt
+named_none : (f : Folder) (task : TaskName) (inputs : List Ssp) (e : RunFault) → IsOfFolder e → IsNamedIn f task inputs e
+named_none f task inputs (Words place) of = tt
+named_none f task inputs NoText of = tt
+named_none f task inputs TextLimit of = tt
+named_none f task inputs (BadEscape line) of = tt
+named_none f task inputs (BadKey key what) of = tt
+named_none f task inputs (NotBuilt key) of = tt
+named_none f task inputs NoPartition of = tt
+named_none f task inputs Device of = tt
+named_none f task inputs (NotOpened o) of = absurd of
+named_none f task inputs (Failed f') of = absurd of
+named_none f task inputs Limit of = tt
+named_none f task inputs NoMemory of = tt
 
-of_pairs_none : (r : Result Props ℕ) → IfErr (of_pairs r) NamesNone
-unfolding NamesNone
-of_pairs_none (Ok pairs) = of_keys_none (config_of pairs)
-of_pairs_none (Err line) = tt
+unready : (words : List (List ℕ)) (f : Folder) (e : RunFault) → IsOfFolder e → WhyNotReady f e → WhyStopped words f e
+unready words f (Words place) of why = absurd of
+unready words f NoText of why = inl why
+unready words f TextLimit of why = inl why
+unready words f (BadEscape line) of why = inl why
+unready words f (BadKey key what) of why = inl why
+unready words f (NotBuilt key) of why = inl why
+unready words f NoPartition of why = inl why
+unready words f Device of why = inl why
+unready words f (NotOpened o) of why = inl why
+unready words f (Failed f') of why = inl why
+unready words f Limit of why = inl why
+unready words f NoMemory of why = inl why
 
-short_none : (short : Bool) (r : Result JobConfig RunFault) → IfErr r NamesNone → IfErr (cond short r (Err TextLimit)) NamesNone
-unfolding NamesNone
-short_none true r none = none
-short_none false r none = tt
+-- the folder isn't ready
+pub of_folder : (tells : Type 0) (words : List (List ℕ)) (f : Folder) (task : TaskName) (inputs : List Ssp) (e : RunFault) → IsOfFolder e → (tells → WhyNotReady f e) → IsCause tells words f task inputs e
+of_folder tells words f task inputs e of why = record {
+  told = told_none words task inputs e of;
+  why = λ told. unready words f e of (why told);
+  named = λ told. named_none f task inputs e of;
+}
 
-said_none : (text : List ℕ) → IfErr (said_by text) NamesNone
-unfolding said_by
-said_none text = short_none (nat_le (length text) (2 ^ 20)) (of_pairs (props_of text)) (of_pairs_none (props_of text))
+told_task : (words : List (List ℕ)) (s : Setup) (task : TaskName) (inputs : List Ssp) (e : RunFault) → IsSetUp s → TellsOf s e → (IsTasks e → IsOf s task inputs) → Told words task inputs e
+told_task words s task inputs (Words place) set_up tells named = absurd tells
+told_task words s task inputs NoText set_up tells named = tt
+told_task words s task inputs TextLimit set_up tells named = tt
+told_task words s task inputs (BadEscape line) set_up tells named = tt
+told_task words s task inputs (BadKey key what) set_up tells named = tt
+told_task words s task inputs (NotBuilt key) set_up tells named = tt
+told_task words s task inputs NoPartition set_up tells named = tt
+told_task words s task inputs Device set_up tells named = tt
+told_task words s task inputs (NotOpened o) set_up tells named = (s, set_up, named tt, tells)
+told_task words s task inputs (Failed f) set_up tells named = (s, set_up, named tt, tells)
+told_task words s task inputs Limit set_up tells named = tt
+told_task words s task inputs NoMemory set_up tells named = tt
 
-unless_none : (c : JobConfig) (key : Option (List ℕ)) → IfErr (unless_asked c key) NamesNone
-unfolding NamesNone
-unless_none c None = tt
-unless_none c (Some key) = tt
+named_task : (f : Folder) (s : Setup) (task : TaskName) (inputs : List Ssp) (e : RunFault) → IsSetUpBy f s → (IsTasks e → IsOf s task inputs) → IsNamedIn f task inputs e
+named_task f s task inputs (Words place) ready named = tt
+named_task f s task inputs NoText ready named = tt
+named_task f s task inputs TextLimit ready named = tt
+named_task f s task inputs (BadEscape line) ready named = tt
+named_task f s task inputs (BadKey key what) ready named = tt
+named_task f s task inputs (NotBuilt key) ready named = tt
+named_task f s task inputs NoPartition ready named = tt
+named_task f s task inputs Device ready named = tt
+named_task f s task inputs (NotOpened o) ready named = (s, ready, named tt)
+named_task f s task inputs (Failed f') ready named = (s, ready, named tt)
+named_task f s task inputs Limit ready named = tt
+named_task f s task inputs NoMemory ready named = tt
 
-built_none : (r : Result JobConfig RunFault) → IfErr r NamesNone → IfErr (if_built r) NamesNone
-built_none (Ok c) none = unless_none c (first_not_built c)
-built_none (Err e) none = none
+stopped : (words : List (List ℕ)) (f : Folder) (job : Meaning) (s : Setup) (e : RunFault) → TellsOf s e → IsReady f job s → WhyUnfinished job s (f.disks (input_disk s) 0) (f.disks task_disk) e → WhyStopped words f e
+stopped words f job s (Words place) tells is why = absurd tells
+stopped words f job s NoText tells is why = absurd tells
+stopped words f job s TextLimit tells is why = absurd tells
+stopped words f job s (BadEscape line) tells is why = absurd tells
+stopped words f job s (BadKey key what) tells is why = absurd tells
+stopped words f job s (NotBuilt key) tells is why = absurd tells
+stopped words f job s NoPartition tells is why = absurd tells
+stopped words f job s Device tells is why = inr (job, s, is, why)
+stopped words f job s (NotOpened o) tells is why = inr (job, s, is, why)
+stopped words f job s (Failed f') tells is why = inr (job, s, is, why)
+stopped words f job s Limit tells is why = inr (job, s, is, why)
+stopped words f job s NoMemory tells is why = inr (job, s, is, why)
 
-configured_none : (text : Option (List ℕ)) → IfErr (configured text) NamesNone
-unfolding NamesNone
-configured_none None = tt
-configured_none (Some text) = built_none (said_by text) (said_none text)
+-- the folder's task isn't run to its end
+pub of_task : (tells : Type 0) (words : List (List ℕ)) (f : Folder) (job : Meaning) (s : Setup) (task : TaskName) (inputs : List Ssp) (e : RunFault) → IsSetUp s → TellsOf s e → (IsTasks e → IsOf s task inputs)
+    → (tells → IsReady f job s) → (tells → WhyUnfinished job s (f.disks (input_disk s) 0) (f.disks task_disk) e) → IsCause tells words f task inputs e
+of_task tells words f job s task inputs e set_up of named ready why = record {
+  told = told_task words s task inputs e set_up of named;
+  why = λ told. stopped words f job s e of (ready told) (why told);
+  named = λ told. named_task f s task inputs e (ready told).set_up named;
+}
 
-one_none : (s : Setup) (n : ℕ) → IfErr (if_one s n) NamesNone
-unfolding NamesNone
-one_none s zero = tt
-one_none s (suc zero) = tt
-one_none s (suc (suc n)) = tt
-
-partitioned_none : (files : DiskName → ℕ) (r : Result JobConfig RunFault) → IfErr r NamesNone → IfErr (if_partitioned files r) NamesNone
-partitioned_none files (Ok c) none = one_none (setup_of c) (files (input_disk (setup_of c)))
-partitioned_none files (Err e) none = none
-
-set_up_none : (f : Folder) (e : RunFault) → set_up_by f ≡ Err e → NamesNone e
-unfolding set_up_by
-set_up_none f e is = subst (λ (r : Result Setup RunFault). IfErr r NamesNone) is (partitioned_none f.files (configured f.text) (configured_none f.text))
-
--- a folder that isn't ready has no task whose inputs are to be named
-pub not_ready : (words : List (List ℕ)) (f : Folder) (inputs : List Ssp) (e : RunFault) → IsPastWords e → WhyNotReady f e → IsStopped words f inputs e
-unfolding NamesNone
-not_ready words f inputs (Words place) past why = absurd past
-not_ready words f inputs NoText past why = (inl why, tt)
-not_ready words f inputs TextLimit past why = (inl why, tt)
-not_ready words f inputs (BadEscape line) past why = (inl why, tt)
-not_ready words f inputs (BadKey key what) past why = (inl why, tt)
-not_ready words f inputs (NotBuilt key) past why = (inl why, tt)
-not_ready words f inputs NoPartition past why = (inl why, tt)
-not_ready words f inputs Device past why = (inl why, tt)
-not_ready words f inputs (NotOpened o) past why = absurd (set_up_none f (NotOpened o) why)
-not_ready words f inputs (Failed failure) past why = absurd (set_up_none f (Failed failure) why)
-not_ready words f inputs Limit past why = (inl why, tt)
-not_ready words f inputs NoMemory past why = (inl why, tt)
-
--- a folder that is ready has its task's inputs
-pub named_in : (f : Folder) (s : Setup) (e : RunFault) (inputs : List Ssp) → IsReady f s → IsNamed s e inputs → IsNamedIn f e inputs
-named_in f s (Words place) inputs ready named = tt
-named_in f s NoText inputs ready named = tt
-named_in f s TextLimit inputs ready named = tt
-named_in f s (BadEscape line) inputs ready named = tt
-named_in f s (BadKey key what) inputs ready named = tt
-named_in f s (NotBuilt key) inputs ready named = tt
-named_in f s NoPartition inputs ready named = tt
-named_in f s Device inputs ready named = tt
-named_in f s (NotOpened o) inputs ready named = (s, ready, named)
-named_in f s (Failed failure) inputs ready named = (s, ready, named)
-named_in f s Limit inputs ready named = tt
-named_in f s NoMemory inputs ready named = tt
+-- memory was refused
+pub no_memory : (tells : Type 0) (words : List (List ℕ)) (f : Folder) (task : TaskName) (inputs : List Ssp) → IsCause tells words f task inputs NoMemory
+no_memory tells words f task inputs = record { told = tt; why = λ told. inl tt; named = λ told. tt }

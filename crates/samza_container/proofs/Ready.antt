@@ -1,13 +1,18 @@
--- A folder that isn't ready, and one whose task stops.
-use Rattle.std.proofs.Common.{ℕ, zero, suc, ◌≡◌, ◌<◌, List, Vec, Global, Option, Some, None, MatchOption, option_map, Result, Ok, Err, IfOk, IfErr, codes, inr, sym, ap, ◌∙◌, refl, arith}
+-- A folder that isn't ready.
+use Rattle.std.proofs.Common.{ℕ, zero, suc, ◌≡◌, ◌<◌, List, Vec, Global, Option, Some, None, MatchOption, option_map, Result, Ok, Err, IfOk, IfErr, codes, cond, sym, ap, ◌∙◌, refl, arith}
 use Rattle.samza_model.specs.declared.setups.Setup.{Setup}
-use Rattle.shipped_jobs.specs.WordCount.{word_count}
+use Rattle.disk_model.specs.Folders.{Folder}
 use Rattle.job_config.specs.declared.config.JobConfig.{JobConfig}
 use Rattle.samza_container.specs.declared.faults.RunFault.{RunFault}
 use Rattle.samza_container.specs.declared.faults.RunFault.TheVariants.{Words, NoText, TextLimit, BadEscape, BadKey, NotBuilt, NoPartition, Device, NotOpened, Failed, Limit, NoMemory}
-use Rattle.samza_container.specs.Causes.{IsOfTask, IsReady, WhyNotOne, WhyNotReady, WhyStopped, WhyUnfinished}
+use Rattle.samza_model.specs.declared.classes.Class.{Class}
+use Rattle.samza_model.specs.declared.classes.Class.TheVariants.{WordCount, Dedupe, SessionCount, TableJoin}
+use Rattle.shipped_jobs.specs.Classes.{meaning_of}
+use Rattle.shipped_jobs.specs.WordCount.{word_count}
+use Rattle.samza_container.specs.NotBuilt.{first_not_built, is_other_job}
+use Rattle.samza_container.specs.Causes.{IsReady, WhyNotOne, WhyNotReady}
 use Rattle.samza_container.specs.ConfigText.{Answers, Refuses}
-use Rattle.samza_container.specs.Configured.{Folder, configured, if_one, if_partitioned, input_disk, set_up_by, task_disk}
+use Rattle.samza_container.specs.Configured.{configured, if_one, if_partitioned, input_disk, set_up_by}
 use Rattle.samza_container.specs.SetUp.{setup_of}
 
 -- a folder without a configuration sets nothing up
@@ -43,6 +48,17 @@ pub text_said : (tells : Type 0) (held t : Option (List ℕ)) (r : Result JobCon
 text_said tells held t (Ok c) is says = λ told. ap configured (is told) ∙ says
 text_said tells held t (Err e) is says = tt
 
+-- a configuration of which all is built asks for the count of words
+class_counts : (class : Class) (more : Option (List ℕ)) → cond (is_other_job class) (Some (codes "task.class")) more ≡ None → meaning_of class ≡ Some word_count
+class_counts WordCount more built = refl
+class_counts Dedupe more built = absurd (cc built)
+class_counts SessionCount more built = absurd (cc built)
+class_counts (TableJoin table) more built = absurd (cc built)
+
+counts_words : (c : JobConfig) → first_not_built c ≡ None → meaning_of c.class ≡ Some word_count
+unfolding first_not_built
+counts_words c built = class_counts c.class _ built
+
 -- a folder's configuration, and how many partitions its input has
 module _ (f : Folder) (c : JobConfig) (s : Setup) (config : configured f.text ≡ Ok c) (is : s ≡ setup_of c) where
   partitioned : (n : ℕ) → f.files (input_disk s) ≡ n → set_up_by f ≡ if_one s n
@@ -52,8 +68,8 @@ module _ (f : Folder) (c : JobConfig) (s : Setup) (config : configured f.text �
       ∙ ap (λ (t : Setup). if_one t (f.files (input_disk t))) (sym is)
       ∙ ap (if_one s) count
 
-  pub ready : f.files (input_disk s) ≡ 1 → IsReady f s
-  ready one = partitioned 1 one
+  pub ready : first_not_built c ≡ None → f.files (input_disk s) ≡ 1 → IsReady f word_count s
+  ready built one = record { set_up = partitioned 1 one; job_is = (c, config, counts_words c built) }
 
   many : (n : ℕ) → 1 < n → if_one s n ≡ Err (NotBuilt (codes "task.inputs"))
   many zero h = absurd (omega (arith, h))
@@ -73,18 +89,3 @@ module _ (f : Folder) (c : JobConfig) (s : Setup) (config : configured f.text �
   not_one (Failed f') why = absurd why
   not_one Limit why = absurd why
   not_one NoMemory why = tt
-
--- a task's fault stops the run of its folder
-pub stopped : (words : List (List ℕ)) (f : Folder) (s : Setup) (e : RunFault) → IsOfTask e → IsReady f s → WhyUnfinished word_count s (f.disks (input_disk s) 0) (f.disks task_disk) e → WhyStopped words f e
-stopped words f s (Words place) of is why = absurd of
-stopped words f s NoText of is why = absurd of
-stopped words f s TextLimit of is why = absurd of
-stopped words f s (BadEscape line) of is why = absurd of
-stopped words f s (BadKey key what) of is why = absurd of
-stopped words f s (NotBuilt key) of is why = absurd of
-stopped words f s NoPartition of is why = absurd of
-stopped words f s Device of is why = inr (s, is, why)
-stopped words f s (NotOpened o) of is why = inr (s, is, why)
-stopped words f s (Failed f') of is why = inr (s, is, why)
-stopped words f s Limit of is why = inr (s, is, why)
-stopped words f s NoMemory of is why = inr (s, is, why)

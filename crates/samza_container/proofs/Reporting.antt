@@ -8,11 +8,12 @@ use Rattle.samza_model.specs.Content.{Content, sent_at}
 use Rattle.samza_model.specs.Files.{Image}
 use Rattle.samza_model.specs.Meaning.{Meaning}
 use Rattle.samza_model.specs.Restored.{id_of}
-use Rattle.task_unit.specs.Growth.{PassesLimit}
-use Rattle.task_unit.specs.Units.{UnitValue, Counts, IsCommitted, NothingUnsent, appended_at}
+use Rattle.unit_logs.specs.Commits.{IsCommitted}
+use Rattle.unit_logs.specs.Growth.{PassesLimit}
+use Rattle.output_log.specs.Outputs.{cleared_at}
+use Rattle.task_unit.specs.Units.{UnitValue, Counts, NothingUnsent}
 use Rattle.samza_container.specs.declared.reports.TaskReport.{TaskReport}
-use Rattle.samza_container.specs.Reported.{input_row, store_row, sent_by, AreRows, FinishesAs, FinishesWith, Tells, TellsUnit}
-use Rattle.samza_container.specs.ReportText.{report_text}
+use Rattle.samza_container.specs.Reported.{input_row, store_row, sent_by, AreRows, FinishesAs, FinishesWith, Reported, Tells, TellsUnit}
 use Rattle.samza_container.specs.Runs.{Advances}
 use Rattle.samza_container.proofs.Passing.{finishes}
 
@@ -47,36 +48,49 @@ tells_as s s' id id' completed completed' next next' end end' stores stores' sen
     }
 
 -- a unit that did all messages and committed
-module _ {P D S : Type 0} (job : Meaning) (before after : Image) (old new : UnitValue P D S) (done : FinishesAs job before after old new) (text : List ℕ)
-    (told : (r : TaskReport) × TellsUnit new r × (text ≡ report_text 0 (r ∷ []))) where
-  pub finishes_with : FinishesWith job old.setup old.messages old.begun old.next old.state before after old.mark (appended_at old.appended) text
+module _ {P D S : Type 0} (job : Meaning) (logs after : Image) (images : Image → Type 0) (old new : UnitValue P D S) (done : FinishesAs job logs after images old new) (report : TaskReport) (told : TellsUnit new report) where
+  pub finishes_with : FinishesWith job old.setup old.messages old.begun old.next old.state logs after images old.mark (cleared_at old.cleared) report
   finishes_with =
       let f = done.finished in
       record {
         finished = f;
-        report = told.0;
         tells = tells_as new.setup old.setup (id_of new.mark) f.made.id (new.next - new.begun) (length old.messages - old.begun) new.next (length old.messages) (length new.messages) (length old.messages) new.state.stores f.left.stores
-            (sent_by new) (λ j. appended_at old.appended j + length (sent_at f.left.sent j)) told.0
-            done.given.0 (ap id_of done.mark_is) (ap (λ n. n - new.begun) done.next_is ∙ ap (λ n. length old.messages - n) done.given.2) done.next_is (ap length done.given.1) done.stores_are done.sent_are told.1;
-        text_is = told.2;
+            (sent_by new) (λ j. cleared_at old.cleared j + length (sent_at f.left.sent j)) report
+            done.given.0 (ap id_of done.mark_is) (ap (λ n. n - new.begun) done.next_is ∙ ap (λ n. length old.messages - n) done.given.2) done.next_is (ap length done.given.1) done.stores_are done.sent_are told;
       }
 
-module _ {P D S : Type 0} (meaning : P → Meaning) (reads : D → Image) (first now new : UnitValue P D S) (after : Image)
-    (all : Advances (meaning first.job) first now) (end : now.next ≡ length first.messages)
-    (committed : (made : Checkpoint) × (new.mark ≡ Some made) × IsCommitted now.setup (reads now.disk) after now.mark now.next now.state made)
-    (room : PassesLimit now.setup (reads now.disk) now.unlogged now.state.sent → ⊥)
+module _ {P D S : Type 0} (meaning : P → Meaning) (reads : D → Image) (first now new : UnitValue P D S) (after : Image) (images : Image → Type 0) (made : Checkpoint)
+    (all : Advances (meaning first.job) first now) (end : now.next ≡ length first.messages) (mark_is : new.mark ≡ Some made)
+    (here : IsCommitted now.setup (reads now.disk) after now.mark now.next now.state now.unlogged made)
+    (each : (c : Image) → images c → IsCommitted now.setup (reads now.disk) c now.mark now.next now.state now.unlogged made)
+    (room : PassesLimit now.setup (reads now.disk) now.mark now.next now.unlogged now.state.sent → ⊥)
     (setup : new.setup ≡ now.setup) (messages : new.messages ≡ now.messages) (begun : new.begun ≡ now.begun)
     (kept : (new.next ≡ now.next) × (new.state.stores ≡ now.state.stores))
-    (counted : Counts now.setup now.appended new.appended now.state.sent) (cleared : NothingUnsent now.setup new.state.sent) where
-  pub finishes_as : FinishesAs (meaning first.job) (reads first.disk) after first new
+    (counted : Counts now.setup now.cleared new.cleared now.state.sent) (cleared : NothingUnsent now.setup new.state.sent) where
+  pub finishes_as : FinishesAs (meaning first.job) (reads first.disk) after images first new
   unfolding finishes
   finishes_as = record {
-    finished = finishes meaning reads first now after new.mark all end committed room;
+    finished = finishes meaning reads first now all end after images made here each room;
     given = (setup ∙ all.given.1, messages ∙ all.given.2, begun ∙ all.given.3);
-    mark_is = committed.1;
+    mark_is = mark_is;
     next_is = kept.0 ∙ end;
     stores_are = kept.1;
     sent_are = λ j lt.
         let here : j < length now.setup.outputs = subst (λ s. j < length s.outputs) (sym all.given.1) lt in
-        omega (arith, counted j here, ap length (cleared j here), ap (λ (counts : List ℕ). appended_at counts j) all.appended);
+        omega (arith, counted j here, ap length (cleared j here), ap (λ (counts : List ℕ). cleared_at counts j) all.cleared);
   }
+
+-- the same of fewer images
+pub reported_of : (job : Meaning) (s : Setup) (input : List ℕ) (before after : Image) (images fewer : Image → Type 0) → ((c : Image) → fewer c → images c) → (report : TaskReport)
+    → Reported job s input before after images report → Reported job s input before after fewer report
+reported_of job s input before after images fewer go report r =
+    let f = r.ran.finishes in
+    record {
+      ran = record {
+        start = r.ran.start;
+        logs = r.ran.logs;
+        stay = r.ran.stay;
+        finishes = record { left = f.left; does = f.does; unlogged = f.unlogged; changes = f.changes; room = f.room; made = f.made; now = f.now; durable = λ c is. f.durable c (go c is) };
+      };
+      tells = r.tells;
+    }

@@ -16,7 +16,7 @@ use Rattle.samza_model.specs.Restored.{IsNamed, marked_place, setup_place}
 use Rattle.job_config.specs.declared.config.InputConfig.{InputConfig}
 use Rattle.job_config.specs.declared.config.JobConfig.{JobConfig}
 use Rattle.job_config.specs.Bounds.{AreRising, IsBounded, IsStore, input_name, store_name}
-use Rattle.task_unit.specs.Units.{IsSetUp}
+use Rattle.unit_logs.specs.Standing.{IsSetUp}
 use Rattle.samza_container.specs.NotBuilt.{first_not_built}
 use Rattle.samza_container.specs.SetUp.{input_setup, setup_of}
 
@@ -128,8 +128,6 @@ pub set_up : (c : JobConfig) → IsBounded c → first_not_built c ≡ None → 
 set_up c bounded built = record {
   one_input = omega (arith, few_inputs c built, bounded.inputs.some, length-map c.inputs input_name, length-map c.inputs input_setup);
   spelled = named_well c bounded;
-  few_stores = bounded.stores.few;
-  few_outputs = bounded.outputs.few;
   batches = batched c.stores bounded.stores.each;
 }
 

@@ -3,7 +3,7 @@ use Rattle.std.proofs.Common.{ℕ, ◌≡◌, List, ◌++◌, length, Result, Ok
 use Rattle.std.proofs.lemmas.List.{take_all}
 use Rattle.samza_model.specs.Counters.{Rose}
 use Rattle.edge_io.specs.Received.{TookPart}
-use Rattle.samza_container.specs.Reported.{Tried}
+use Rattle.samza_container.specs.Endings.{Tried}
 
 pub took_all : (bytes before after : List ℕ) → after ≡ before ++ bytes → TookPart bytes before after
 took_all bytes before after is = record { count = length bytes; taken = is ∙ ap (λ (b : List ℕ). before ++ b) (sym (take_all (length bytes) bytes (omega arith))) }

@@ -1,11 +1,14 @@
 -- Clauses over results, and over an outside that tells its bytes.
-use Rattle.std.proofs.Common.{ℕ, List, Result, Ok, Err, IfOk, IfErr, inl, inr}
+use Rattle.std.proofs.Common.{ℕ, ◌≡◌, ◌≢◌, arith, List, Result, Ok, Err, IfOk, IfErr, inl, inr}
 use Rattle.samza_model.specs.declared.setups.Setup.{Setup}
 use Rattle.samza_model.specs.Files.{Image}
 use Rattle.restore_trim.specs.declared.faults.OpenFault.{OpenFault}
 use Rattle.restore_trim.specs.declared.faults.OpenFault.TheVariants.{Device, Damaged, Shape, Ahead, Limit, NoMemory}
 use Rattle.task_unit.specs.Inputs.{WhyNoInput}
 use Rattle.task_unit.specs.Units.{WhyNotOpened}
+use Rattle.samza_container.specs.declared.faults.Stopped.{Stopped}
+use Rattle.samza_container.specs.Causes.{status_of}
+use Rattle.samza_container.specs.Stops.{stops_with}
 
 pub if_ok : {A E : Type 0} (r : Result A E) {P Q : A → Type 0} → ((x : A) → P x → Q x) → IfOk r P → IfOk r Q
 if_ok (Ok x) go p = go x p
@@ -47,3 +50,11 @@ opened_told tells told s image bytes e disk shelf (inr (inr p)) = inr (inr (reco
   past = p.past;
   fault = p.fault;
 }))
+
+pub if_err_four : {A E : Type 0} (r : Result A E) {P Q R S T : E → Type 0} → ((e : E) → P e → Q e → R e → S e → T e) → IfErr r P → IfErr r Q → IfErr r R → IfErr r S → IfErr r T
+if_err_four (Ok x) go p q r' s = tt
+if_err_four (Err e) go p q r' s = go e p q r' s
+
+pub never_two : {A : Type 0} (r : Result A Stopped) → IfErr r (λ s. status_of s.fault ≢ 2) → stops_with r ≡ 2 → ⊥
+never_two (Ok x) other two = omega (arith, two)
+never_two (Err s) other two = other two

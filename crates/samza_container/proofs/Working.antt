@@ -3,25 +3,30 @@ use Rattle.std.proofs.Common.{ℕ, suc, ◌≡◌, ◌<◌, ◌≤◌, ◌+◌, 
 use Rattle.samza_model.specs.declared.messages.Record.{Record}
 use Rattle.samza_model.specs.declared.checkpoints.Checkpoint.{Checkpoint}
 use Rattle.samza_model.specs.declared.setups.Setup.{Setup}
-use Rattle.samza_model.specs.Content.{Content, State, sent_at}
+use Rattle.samza_model.specs.Content.{State, sent_at}
 use Rattle.samza_model.specs.Files.{Image, checkpoint_file, changelog_file, output_file}
 use Rattle.samza_model.specs.Logs.{joined, HasFrames, HasLog}
 use Rattle.samza_model.specs.Meaning.{Meaning}
+use Rattle.samza_model.specs.Partition.{partition_of}
 use Rattle.samza_model.specs.Restored.{Restores, count_at, next_at, start_of}
 use Rattle.changelog.specs.Folds.{reverts_of}
-use Rattle.restore_trim.specs.Growth.{Passes}
+use Rattle.topic_log.specs.Growth.{Passes}
 use Rattle.restore_trim.specs.Refused.{StoresOpen}
 use Rattle.restore_trim.proofs.Cutting.{cut_unique}
 use Rattle.topic_log.proofs.Spelling.{frames_unique}
-use Rattle.task_unit.specs.Growth.{PassesLimit}
-use Rattle.task_unit.specs.Units.{UnitValue, CommitLeaves, IsCommitted, IsFailed, LogsStay, appended_at, input_of}
+use Rattle.unit_logs.specs.Growth.{PassesLimit}
+use Rattle.restore_trim.specs.Crashes.{OpeningLeaves}
+use Rattle.output_log.specs.Outputs.{cleared_at}
+use Rattle.task_unit.specs.Units.{UnitValue, LogsStay, input_of}
 use Rattle.samza_container.specs.declared.faults.RunFault.{RunFault}
 use Rattle.samza_container.specs.declared.faults.RunFault.TheVariants.{Words, NoText, TextLimit, BadEscape, BadKey, NotBuilt, NoPartition, Device, NotOpened, Failed, Limit, NoMemory}
-use Rattle.samza_container.specs.Causes.{WhyNotFinished, WhyUnfinished}
-use Rattle.samza_container.specs.Leaves.{CommitsFrom, LeftInCommit}
+use Rattle.samza_container.specs.declared.reports.TaskReport.{TaskReport}
+use Rattle.samza_container.specs.Causes.{TellsOf, WhyNotFinished, WhyUnfinished}
+use Rattle.samza_container.specs.Leaves.{CommitsFrom, FinishLeaves, RunLeaves}
 use Rattle.samza_container.specs.Reported.{FinishesWith, Reported}
 use Rattle.samza_container.proofs.Reporting.{tells_as}
-use Rattle.samza_container.specs.Runs.{fresh, AreChanges, Does, Reaches, Ran, FillsFrom, Finishes}
+use Rattle.samza_container.specs.Runs.{fresh, CanRun, FailsFrom, FillsFrom, RanThrough, Start}
+use Rattle.samza_container.proofs.Timely.{in_time}
 
 -- as many lists as outputs, each of them empty
 all_empty : {Y : Type 0} (lists : List (List Record)) (outputs : List Y) → length lists ≡ length outputs → ((j : ℕ) → j < length outputs → get_or lists j [] ≡ []) → lists ≡ map (λ _. []) outputs
@@ -36,20 +41,33 @@ IsTaskFile : Setup → ℕ → Type 0
 IsTaskFile s file = ((j : ℕ) × (j < length s.outputs) × (file ≡ output_file j)) ⊎ (((i : ℕ) × (i < length s.stores) × (file ≡ changelog_file i)) ⊎ (file ≡ checkpoint_file))
 
 -- a file that has the same frames passes the limit with the same
-module _ (s : Setup) (now there : Image) (carry : (file : ℕ) → IsTaskFile s file → (frames : List (List Record)) → HasFrames (now file) frames → HasFrames (there file) frames) where
+module _ (s : Setup) (now there : Image) (carry : (file : ℕ) → IsTaskFile s file → (frames : List (List Record)) → HasFrames (now file) frames → HasFrames (there file) frames)
+    (back : (file : ℕ) → IsTaskFile s file → (frames : List (List Record)) → HasFrames (there file) frames → HasFrames (now file) frames) where
   carried : (file : ℕ) → IsTaskFile s file → (frames : List (List Record)) → Passes (now file) frames → Passes (there file) frames
-  carried file is frames p = record { had = p.had; has = carry file is p.had p.has; passes = p.passes }
+  carried file is frames p = record { had = p.had; has = carry file is p.had p.has; some = p.some; passes = p.passes }
 
-  passes_there : (unlogged sent : List (List Record)) → PassesLimit s now unlogged sent → PassesLimit s there unlogged sent
+  passes_there : (mark : Option Checkpoint) (next : ℕ) (unlogged sent : List (List Record)) → PassesLimit s now mark next unlogged sent → PassesLimit s there mark next unlogged sent
   unfolding IsTaskFile
-  passes_there unlogged sent (inl o) =
+  passes_there mark next unlogged sent (inl o) =
       let p = o.passes in
       inl (record { output = o.output; within = o.within; passes = record { frames = p.frames; cut = p.cut; passes = carried (output_file o.output) (inl (o.output, o.within, refl)) p.frames p.passes } })
-  passes_there unlogged sent (inr (inl o)) =
+  passes_there mark next unlogged sent (inr (inl o)) =
       let p = o.passes in
       inr (inl (record { store = o.store; within = o.within; passes = record { frames = p.frames; cut = p.cut; passes = carried (changelog_file o.store) (inr (inl (o.store, o.within, refl))) p.frames p.passes } }))
-  passes_there unlogged sent (inr (inr m)) =
-      inr (inr (record { mark = m.mark; named = m.named; last = m.last; spells = m.spells; passes = carried checkpoint_file (inr (inr refl)) ((m.last ∷ []) ∷ []) m.passes }))
+  passes_there mark next unlogged sent (inr (inr m)) =
+      let n = m.is_next in
+      inr (inr (record {
+        made = m.made;
+        is_next = record {
+          named = n.named;
+          id_is = n.id_is;
+          next_is = n.next_is;
+          counts = λ i had lt log. n.counts i had lt (record { frames = log.frames; has = back (changelog_file i) (inr (inl (i, lt, refl))) log.frames log.has; records_are = log.records_are });
+        };
+        last = m.last;
+        spells = m.spells;
+        passes = carried checkpoint_file (inr (inr refl)) ((m.last ∷ []) ∷ []) m.passes;
+      }))
 
 -- two images that an opening may leave of the same files have the same frames
 module _ (s : Setup) (mark : Option Checkpoint) (before one other : Image) (opens : StoresOpen before mark (length s.stores)) (stay : LogsStay s mark before one) (stay' : LogsStay s mark before other) where
@@ -68,98 +86,93 @@ module _ (s : Setup) (mark : Option Checkpoint) (before one other : Image) (open
   same_frames file (inr (inl o)) had = subst (λ (f : ℕ). HasFrames (one f) had → HasFrames (other f) had) (sym o.2) (same_changes o.0 o.1 had)
   same_frames file (inr (inr is)) had = subst (λ (f : ℕ). HasFrames (one f) had → HasFrames (other f) had) (sym is) (λ has. (stay'.marks had).0 ((stay.marks had).1 has))
 
-  passes_other : (unlogged sent : List (List Record)) → PassesLimit s one unlogged sent → PassesLimit s other unlogged sent
-  passes_other = passes_there s one other same_frames
+-- what passes the limit as one opening left the files passes it as another did
+passes_other : (s : Setup) (mark : Option Checkpoint) (before one other : Image) (opens : StoresOpen before mark (length s.stores)) → LogsStay s mark before one → LogsStay s mark before other
+    → (next : ℕ) (unlogged sent : List (List Record)) → PassesLimit s one mark next unlogged sent → PassesLimit s other mark next unlogged sent
+passes_other s mark before one other opens stay stay' next unlogged sent =
+    passes_there s one other (same_frames s mark before one other opens stay stay') (same_frames s mark before other one opens stay' stay) mark next unlogged sent
+
+fills_other : (job : Meaning) (s : Setup) (mark : Option Checkpoint) (before one other : Image) (opens : StoresOpen before mark (length s.stores)) → LogsStay s mark before one → LogsStay s mark before other
+    → (messages : List Record) (from : ℕ) (old : State) → FillsFrom job s one mark messages from old → FillsFrom job s other mark messages from old
+fills_other job s mark before one other opens stay stay' messages from old fills = record {
+  left = fills.left;
+  does = fills.does;
+  unlogged = fills.unlogged;
+  changes = fills.changes;
+  passes = passes_other s mark before one other opens stay stay' (length messages) fills.unlogged fills.left.sent fills.passes;
+}
+
+-- a task that was run to its end can be
+pub ran_can : (job : Meaning) (s : Setup) (input : List ℕ) (before after : Image) (images : Image → Type 0) → RanThrough job s input before after images → CanRun job s input before
+ran_can job s input before after images ran =
+    let b = ran.start in
+    let f = ran.finishes in
+    record {
+      start = b;
+      left = f.left;
+      does = f.does;
+      room = λ logs left fills. f.room (fills_other job s b.mark before logs ran.logs b.opens left ran.stay b.messages b.begun (fresh s b.stores) fills);
+    }
 
 module _ {P D S : Type 0} (job : Meaning) (s : Setup) (bytes : List ℕ) (image reads : Image) (u : UnitValue P D S) (setup_is : u.setup ≡ s)
     (restored : Restores s image u.mark u.state.stores) (opens : StoresOpen image u.mark (length s.stores)) (stay : LogsStay s u.mark image reads) (has : HasLog bytes u.messages)
-    (start : (u.next ≡ start_of (next_at u.mark 0) (input_of s) (record { first = 0; records = u.messages })) × (u.begun ≡ u.next)) (within : u.next ≤ length u.messages)
+    (start : (u.next ≡ start_of (next_at u.mark 0) (input_of s) (partition_of u.messages)) × (u.begun ≡ u.next)) (within : u.next ≤ length u.messages)
     (outputs : length u.state.sent ≡ length s.outputs) (unsent : (j : ℕ) → j < length s.outputs → sent_at u.state.sent j ≡ []) where
   is_fresh : u.state ≡ fresh s u.state.stores
   is_fresh = ap (λ (sent : List (List Record)). record { stores = u.state.stores; sent = sent }) (all_empty u.state.sent s.outputs outputs unsent)
 
-  -- what passes the limit as an opening may leave the files passes it as they are open
-  filled : (logs : Image) → LogsStay s u.mark image logs → FillsFrom job s logs u.messages u.next (fresh s u.state.stores) → FillsFrom job s reads u.messages u.next u.state
-  filled logs left fills = record {
-    left = fills.left;
-    does = subst (λ old. Does job s u.messages u.next (length u.messages) old fills.left) (sym is_fresh) fills.does;
-    unlogged = fills.unlogged;
-    changes = subst (λ old. AreChanges job s u.messages u.next (length u.messages) old fills.left fills.unlogged) (sym is_fresh) fills.changes;
-    passes = passes_other s u.mark image logs reads opens left stay fills.unlogged fills.left.sent fills.passes;
-  }
-
-  output_stays : (j : ℕ) → j < length s.outputs → (had : List Record) → HasLog (image (output_file j)) had → HasLog (reads (output_file j)) had
-  output_stays j lt had log = record { frames = log.frames; has = (stay.outputs j lt log.frames).0 log.has; records_are = log.records_are }
-
-  reaches : (to : ℕ) (state : State) → Does job u.setup u.messages u.next to u.state state → Reaches job s bytes image u.mark u.messages u.begun to state
-  reaches to state does = record {
+  first : Start s bytes image
+  first = record {
+    mark = u.mark;
     stores = u.state.stores;
     restored = restored;
     opens = opens;
+    messages = u.messages;
     has_messages = has;
+    begun = u.begun;
     begins = start.1 ∙ start.0;
     within = omega (arith, start.1, within);
-    does = subst (λ from. Does job s u.messages from to (fresh s u.state.stores) state) (sym start.1)
-        (subst (λ old. Does job s u.messages u.next to old state) is_fresh (subst (λ t. Does job t u.messages u.next to u.state state) setup_is does));
   }
 
-  -- what the commit made of the files as they are open, it made of them as they were found
-  committed_before : (after : Image) (next : ℕ) (state : State) (made : Checkpoint) → IsCommitted s reads after u.mark next state made → IsCommitted s image after u.mark next state made
-  committed_before after next state made c = record {
-    id_is = c.id_is;
-    next_is = c.next_is;
-    counts = c.counts;
-    restores = c.restores;
-    sends = λ j had lt log. c.sends j had lt (output_stays j lt had log);
-  }
+  -- what holds from the unit on holds from the files on
+  from_files : (R : Setup → ℕ → State → Type 0) → R u.setup u.next u.state → R s u.begun (fresh s u.state.stores)
+  from_files R r =
+      subst (λ old. R s u.begun old) is_fresh
+      (subst (λ n. R s n u.state) (sym start.1)
+      (subst (λ t. R t u.next u.state) setup_is r))
 
-  leaves_before : (after : Image) (contents : List Content) (next : ℕ) (state : State) → CommitLeaves s reads after u.mark contents next state → CommitLeaves s image after u.mark contents next state
-  leaves_before after contents next state (inl un) = inl (record { restores = un.restores; sends = λ j had lt log. un.sends j had lt (output_stays j lt had log) })
-  leaves_before after contents next state (inr c) = inr (c.0, committed_before after next state c.0 c.1)
+  -- what a crash left of the opened files, until the unit did all messages and in its commit
+  pub left_behind : (status : ℕ) (a b c : Image) → OpeningLeaves s a b → FinishLeaves status job u.setup u.messages u.next u.state reads u.mark u.state.stores b c → RunLeaves status job s bytes image a c
+  unfolding first
+  left_behind status a b c opening (inl same) = inl (subst (OpeningLeaves s a) (sym same) opening)
+  left_behind status a b c opening (inr commits) = inr (
+    commits.0,
+    record {
+      start = first;
+      logs = reads;
+      stay = stay;
+      opened = b;
+      opening = opening;
+      commits = from_files (λ t n old. CommitsFrom job t u.messages n old reads u.mark u.state.stores b c) commits.1;
+    },
+  )
 
-  has_run : (after : Image) → Finishes job s u.messages u.next u.state reads after u.mark → Ran job s bytes image after
-  unfolding reaches
-  has_run after f = record {
-    mark = u.mark;
-    messages = u.messages;
-    begun = u.begun;
-    state = f.left;
-    reached = reaches (length u.messages) f.left (subst (λ t. Does job t u.messages u.next (length u.messages) u.state f.left) (sym setup_is) f.does);
-    room = λ logs left fills. f.room (filled logs left (subst (λ (begun : ℕ). FillsFrom job s logs u.messages begun (fresh s u.state.stores)) start.1 fills));
-    made = f.made;
-    committed = committed_before after (length u.messages) f.left f.made f.committed;
-  }
-
-  -- what a crash left once the unit did all messages
-  pub left_in_commit : (after : Image) → CommitsFrom job u.setup u.messages u.next u.state reads u.mark u.state.stores after → LeftInCommit job s bytes image after
-  unfolding reaches
-  left_in_commit after f = record {
-    mark = u.mark;
-    messages = u.messages;
-    begun = u.begun;
-    state = f.left;
-    reached = reaches (length u.messages) f.left f.does;
-    leaves = leaves_before after u.state.stores (length u.messages) f.left (subst (λ t. CommitLeaves t reads after u.mark u.state.stores (length u.messages) f.left) setup_is f.leaves);
-  }
-
-  pub has_reported : (after : Image) (text : List ℕ) → ((j : ℕ) → j < length s.outputs → appended_at u.appended j ≡ 0)
-      → FinishesWith job u.setup u.messages u.begun u.next u.state reads after u.mark (appended_at u.appended) text → Reported job s bytes image after text
-  unfolding has_run
-  has_reported after text none done =
-      let w = subst (λ t. FinishesWith job t u.messages u.begun u.next u.state reads after u.mark (appended_at u.appended) text) setup_is done in
+  pub has_reported : (after : Image) (images : Image → Type 0) (report : TaskReport) → ((j : ℕ) → j < length s.outputs → cleared_at u.cleared j ≡ 0)
+      → FinishesWith job u.setup u.messages u.begun u.next u.state reads after images u.mark (cleared_at u.cleared) report → Reported job s bytes image after images report
+  unfolding first
+  has_reported after images report none done =
+      let w = from_files (λ t n old. FinishesWith job t u.messages u.begun n old reads after images u.mark (cleared_at u.cleared) report) done in
       let f = w.finished in
       let n = length u.messages in
       let completed = n - u.begun in
       record {
-        ran = has_run after f;
-        report = w.report;
-        tells = tells_as s s f.made.id f.made.id completed completed n n n n f.left.stores f.left.stores (λ j. appended_at u.appended j + length (sent_at f.left.sent j)) (λ j. length (sent_at f.left.sent j)) w.report
+        ran = record { start = first; logs = reads; stay = stay; finishes = f };
+        tells = tells_as s s f.made.id f.made.id completed completed n n n n f.left.stores f.left.stores (λ j. cleared_at u.cleared j + length (sent_at f.left.sent j)) (λ j. length (sent_at f.left.sent j)) report
             refl refl refl refl refl refl (λ j lt. omega (arith, none j lt)) w.tells;
-        text_is = w.text_is;
       }
 
-  pub unfinished : (tells : Type 0) (told : tells) (e : RunFault) → WhyNotFinished tells job u.setup reads u.messages u.begun u.next u.state e → WhyUnfinished job s bytes image e
-  unfolding reaches
+  pub unfinished : (tells : Type 0) (told : tells) (e : RunFault) → WhyNotFinished tells job u.setup reads u.mark u.messages u.begun u.next u.state e → WhyUnfinished job s bytes image e
+  unfolding first
   unfinished tells told (Words place) why = absurd why
   unfinished tells told NoText why = absurd why
   unfinished tells told TextLimit why = absurd why
@@ -169,28 +182,24 @@ module _ {P D S : Type 0} (job : Meaning) (s : Setup) (bytes : List ℕ) (image 
   unfinished tells told NoPartition why = absurd why
   unfinished tells told Device why = tt
   unfinished tells told (NotOpened e) why = absurd why
-  unfinished tells told (Failed f) why = record {
-    mark = u.mark;
-    messages = u.messages;
-    begun = u.begun;
-    next = why.reached;
-    state = why.left;
-    reached = reaches why.reached why.left why.does;
-    failed = subst (λ t. IsFailed job t u.messages u.begun why.reached why.left f) setup_is why.failed;
-  }
-  unfinished tells told Limit why =
-      let f = subst (λ t. FillsFrom job t reads u.messages u.next u.state) setup_is (why told) in
-      record {
-        mark = u.mark;
-        messages = u.messages;
-        begun = u.begun;
-        state = f.left;
-        reached = reaches (length u.messages) f.left (subst (λ t. Does job t u.messages u.next (length u.messages) u.state f.left) (sym setup_is) f.does);
-        unlogged = f.unlogged;
-        changes = subst (λ from. AreChanges job s u.messages from (length u.messages) (fresh s u.state.stores) f.left f.unlogged) (sym start.1)
-            (subst (λ old. AreChanges job s u.messages u.next (length u.messages) old f.left f.unlogged) is_fresh f.changes);
-        logs = reads;
-        stay = stay;
-        passes = f.passes;
-      }
+  unfinished tells told (Failed f) why = record { start = first; fails = from_files (λ t n old. FailsFrom job t u.messages u.begun n old f) why }
+  unfinished tells told Limit why = record { start = first; logs = reads; stay = stay; fills = from_files (λ t n old. FillsFrom job t reads u.mark u.messages n old) (why told) }
   unfinished tells told NoMemory why = tt
+
+-- what a unit's failure tells on every outside
+pub tells_failed : (tells : Type 0) (job : Meaning) (s s' : Setup) (logs : Image) (mark : Option Checkpoint) (messages : List Record) (begun next : ℕ) (state : State) (e : RunFault)
+    → WhyNotFinished tells job s logs mark messages begun next state e → TellsOf s' e
+tells_failed tells job s s' logs mark messages begun next state (Words place) why = absurd why
+tells_failed tells job s s' logs mark messages begun next state NoText why = absurd why
+tells_failed tells job s s' logs mark messages begun next state TextLimit why = absurd why
+tells_failed tells job s s' logs mark messages begun next state (BadEscape line) why = absurd why
+tells_failed tells job s s' logs mark messages begun next state (BadKey key what) why = absurd why
+tells_failed tells job s s' logs mark messages begun next state (NotBuilt key) why = absurd why
+tells_failed tells job s s' logs mark messages begun next state NoPartition why = absurd why
+tells_failed tells job s s' logs mark messages begun next state Device why = tt
+tells_failed tells job s s' logs mark messages begun next state (NotOpened e) why = absurd why
+tells_failed tells job s s' logs mark messages begun next state (Failed f) why =
+    let failed = why.failed in
+    ((why.reached, failed.place_is), in_time job s failed.message why.left f.why failed.ended)
+tells_failed tells job s s' logs mark messages begun next state Limit why = tt
+tells_failed tells job s s' logs mark messages begun next state NoMemory why = tt

@@ -1,20 +1,25 @@
 -- Why a run ends otherwise than well: the first cause in the order of work.
-use Rattle.std.specs.Prelude.{ℕ, ◌≡◌, ◌<◌, ◌⊎◌, List, Ok, Err, codes}
+use Rattle.std.specs.Prelude.{ℕ, ◌≡◌, ◌≢◌, ◌<◌, ◌⊎◌, List, Option, Some, Result, Ok, Err, codes}
 use Rattle.samza_model.specs.declared.messages.Record.{Record}
+use Rattle.samza_model.specs.declared.checkpoints.Checkpoint.{Checkpoint}
+use Rattle.samza_model.specs.declared.turns.Why.{Why}
+use Rattle.samza_model.specs.declared.turns.Why.TheVariants.{Code, TooMany, Limits, Expired}
+use Rattle.disk_model.specs.Folders.{Folder}
 use Rattle.samza_model.specs.Content.{State}
 use Rattle.samza_model.specs.Files.{Image}
 use Rattle.samza_model.specs.Meaning.{Meaning}
 use Rattle.samza_model.specs.declared.setups.Setup.{Setup}
 use Rattle.disk_model.specs.declared.hosts.HostFault.{HostFault}
 use Rattle.disk_model.specs.declared.hosts.HostFault.TheVariants.{Device as HostDevice, NoMemory as HostNoMemory}
-use Rattle.shipped_jobs.specs.WordCount.{word_count}
+use Rattle.job_config.specs.declared.config.JobConfig.{JobConfig}
+use Rattle.shipped_jobs.specs.Classes.{meaning_of}
 use Rattle.restore_trim.specs.declared.faults.OpenFault.{OpenFault}
 use Rattle.restore_trim.specs.declared.faults.OpenFault.TheVariants.{Device as OpenDevice, Damaged, Shape, Ahead, Limit as OpenLimit, NoMemory as OpenNoMemory}
-use Rattle.task_unit.specs.Units.{WhyNotOpened}
+use Rattle.task_unit.specs.Units.{TellsTask, WhyNotOpened}
 use Rattle.samza_container.specs.declared.faults.RunFault.{RunFault}
 use Rattle.samza_container.specs.declared.faults.RunFault.TheVariants.{Words, NoText, TextLimit, BadEscape, BadKey, NotBuilt, NoPartition, Device, NotOpened, Failed, Limit, NoMemory}
-use Rattle.samza_container.specs.Configured.{Folder, set_up_by, task_disk, input_disk}
-use Rattle.samza_container.specs.Runs.{Fails, FailsFrom, Fills, FillsFrom, Ran}
+use Rattle.samza_container.specs.Configured.{configured, set_up_by, task_disk, input_disk}
+use Rattle.samza_container.specs.Runs.{CanRun, Fails, FailsFrom, Fills, FillsFrom}
 use Rattle.samza_container.specs.Words.{IsRefusedAt}
 
 -- a host's fault as the run's
@@ -22,23 +27,40 @@ abbrev pub host_fault : HostFault → RunFault
 host_fault HostDevice = Device
 host_fault HostNoMemory = NoMemory
 
--- a task's fault, once its disk and its input are at hand
-abbrev pub IsOfTask : RunFault → Type 0
-IsOfTask Device = Unit {0}
-IsOfTask (NotOpened e) = Unit {0}
-IsOfTask (Failed f) = Unit {0}
-IsOfTask Limit = Unit {0}
-IsOfTask NoMemory = Unit {0}
-IsOfTask e = ⊥
+-- a fault of the folder, before there is a task
+abbrev pub IsOfFolder : RunFault → Type 0
+IsOfFolder (Words place) = ⊥
+IsOfFolder (NotOpened e) = ⊥
+IsOfFolder (Failed f) = ⊥
+IsOfFolder Limit = ⊥
+IsOfFolder e = Unit {0}
 
--- the words were a command
-abbrev pub IsPastWords : RunFault → Type 0
-IsPastWords (Words place) = ⊥
-IsPastWords e = Unit {0}
+-- the time of a turn ran out, which no run does yet
+abbrev pub IsInTime : Why → Type 0
+IsInTime (Expired delivered now) = ⊥
+IsInTime why = Unit {0}
+
+-- a fault of a task with this setup, once its disk and its input are at hand; and what of it holds on every outside
+abbrev pub TellsOf : Setup → RunFault → Type 0
+TellsOf s Device = Unit {0}
+TellsOf s (NotOpened e) = TellsTask s e
+TellsOf s (Failed f) = ((offset : ℕ) × (f.place ≡ Some (0, offset))) × IsInTime f.why
+TellsOf s Limit = Unit {0}
+TellsOf s NoMemory = Unit {0}
+TellsOf s e = ⊥
 
 -- a folder's task is set up so
-abbrev pub IsReady : Folder → Setup → Type 0
-IsReady f s = set_up_by f ≡ Ok s
+abbrev pub IsSetUpBy : Folder → Setup → Type 0
+IsSetUpBy f s = set_up_by f ≡ Ok s
+
+-- the job that a folder's configuration asks for means this
+abbrev pub IsJobOf : Folder → Meaning → Type 0
+IsJobOf f job = (c : JobConfig) × (configured f.text ≡ Ok c) × (meaning_of c.class ≡ Some job)
+
+-- a folder's task is set up so, for a job that means this
+pub record IsReady (f : Folder) (job : Meaning) (s : Setup) : Type 0 where
+  pub set_up : IsSetUpBy f s
+  pub job_is : IsJobOf f job
 
 -- an input hasn't just one partition
 abbrev pub WhyNotOne : ℕ → RunFault → Type 0
@@ -55,12 +77,12 @@ WhyNotReady f NoMemory = Unit {0}
 WhyNotReady f e = set_up_by f ≡ Err e
 
 -- from this state on, a unit's messages aren't all done and committed
-abbrev pub WhyNotFinished : Type 0 → Meaning → Setup → Image → List Record → ℕ → ℕ → State → RunFault → Type 0
-WhyNotFinished tells job s before messages begun next state Device = Unit {0}
-WhyNotFinished tells job s before messages begun next state (Failed f) = FailsFrom job s messages begun next state f
-WhyNotFinished tells job s before messages begun next state Limit = tells → FillsFrom job s before messages next state
-WhyNotFinished tells job s before messages begun next state NoMemory = Unit {0}
-WhyNotFinished tells job s before messages begun next state e = ⊥
+abbrev pub WhyNotFinished : Type 0 → Meaning → Setup → Image → Option Checkpoint → List Record → ℕ → ℕ → State → RunFault → Type 0
+WhyNotFinished tells job s logs mark messages begun next state Device = Unit {0}
+WhyNotFinished tells job s logs mark messages begun next state (Failed f) = FailsFrom job s messages begun next state f
+WhyNotFinished tells job s logs mark messages begun next state Limit = tells → FillsFrom job s logs mark messages next state
+WhyNotFinished tells job s logs mark messages begun next state NoMemory = Unit {0}
+WhyNotFinished tells job s logs mark messages begun next state e = ⊥
 
 -- a task isn't run to its end: it isn't opened, the job fails one of its messages, or a file would grow too large
 abbrev pub WhyUnfinished : Meaning → Setup → List ℕ → Image → RunFault → Type 0
@@ -77,14 +99,14 @@ WhyUnfinished job s input before (Failed f) = Fails job s input before f
 WhyUnfinished job s input before Limit = Fills job s input before
 WhyUnfinished job s input before NoMemory = Unit {0}
 
--- a folder's task was run to its end, which leaves these files of it
-abbrev pub IsRun : Folder → Image → Type 0
-IsRun f after = (s : Setup) × IsReady f s × Ran word_count s (f.disks (input_disk s) 0) (f.disks task_disk) after
+-- a folder can be run to its task's input's end
+abbrev pub Runnable : Folder → Type 0
+Runnable f = (job : Meaning) × (s : Setup) × IsReady f job s × CanRun job s (f.disks (input_disk s) 0) (f.disks task_disk)
 
 -- why a folder isn't run to its end
 abbrev pub WhyStopped : List (List ℕ) → Folder → RunFault → Type 0
 WhyStopped words f (Words place) = IsRefusedAt words place
-WhyStopped words f e = WhyNotReady f e ⊎ ((s : Setup) × IsReady f s × WhyUnfinished word_count s (f.disks (input_disk s) 0) (f.disks task_disk) e)
+WhyStopped words f e = WhyNotReady f e ⊎ ((job : Meaning) × (s : Setup) × IsReady f job s × WhyUnfinished job s (f.disks (input_disk s) 0) (f.disks task_disk) e)
 
 abbrev pub open_status : OpenFault → ℕ
 open_status OpenDevice = 4
@@ -93,6 +115,13 @@ open_status Shape = 6
 open_status (Ahead input store wanted held) = 6
 open_status OpenLimit = 9
 open_status OpenNoMemory = 8
+
+-- the status of a turn that failed
+abbrev pub failure_status : Why → ℕ
+failure_status (Code code) = 5
+failure_status TooMany = 5
+failure_status Limits = 5
+failure_status (Expired delivered now) = 11
 
 -- the status with which the program ends
 abbrev pub status_of : RunFault → ℕ
@@ -105,6 +134,21 @@ status_of (NotBuilt key) = 3
 status_of NoPartition = 3
 status_of Device = 4
 status_of (NotOpened e) = open_status e
-status_of (Failed f) = 5
+status_of (Failed f) = failure_status f.why
 status_of Limit = 9
 status_of NoMemory = 8
+
+-- the status of a run that answered this
+abbrev pub ends_with : {A : Type 0} → Result A RunFault → ℕ
+ends_with (Ok x) = 0
+ends_with (Err e) = status_of e
+
+-- the statuses with which the folder of the words was entered: the words were a command, and neither a device nor memory stopped the command
+abbrev pub HasEntered : ℕ → Type 0
+HasEntered status = (status ≢ 2) × (status ≢ 4) × (status ≢ 7) × (status ≢ 8)
+
+-- a fault whose line names a task
+abbrev pub IsTasks : RunFault → Type 0
+IsTasks (NotOpened e) = Unit {0}
+IsTasks (Failed f) = Unit {0}
+IsTasks e = ⊥

@@ -1,8 +1,8 @@
 -- What a folder holds at a run's start, and what its task is set up with.
 use Rattle.std.specs.Prelude.{ℕ, zero, suc, List, Option, Some, None, Result, Ok, Err, codes}
 use Rattle.samza_model.specs.declared.setups.Setup.{Setup}
-use Rattle.samza_model.specs.Files.{Image}
 use Rattle.disk_model.specs.declared.names.DiskName.{DiskName}
+use Rattle.disk_model.specs.Folders.{Folder}
 use Rattle.disk_model.specs.declared.names.DiskName.TheVariants.{Task, Stream}
 use Rattle.job_config.specs.declared.config.JobConfig.{JobConfig}
 use Rattle.task_unit.specs.Units.{input_of}
@@ -18,17 +18,6 @@ task_disk = Task 0
 
 abbrev pub input_disk : Setup → DiskName
 input_disk s = Stream (input_of s).ssp.system (input_of s).ssp.stream
-
-pub record Folder : Type 0 where
-  -- the configuration's bytes
-  pub text : Option (List ℕ)
-  -- of each disk, one more than the greatest number of a file: of a stream, its partitions
-  pub files : DiskName → ℕ
-  -- the files of each disk
-  pub disks : DiskName → Image
-
-abbrev pub folder_of : Option (List ℕ) → (DiskName → ℕ) → (DiskName → Image) → Folder
-folder_of text files disks = record { text = text; files = files; disks = disks }
 
 -- a configuration, unless a key of it asks for what isn't built
 abbrev pub unless_asked : JobConfig → Option (List ℕ) → Result JobConfig RunFault

@@ -7,46 +7,61 @@ use Rattle.samza_model.specs.Content.{Content, State}
 use Rattle.samza_model.specs.Files.{Image}
 use Rattle.samza_model.specs.Meaning.{Meaning}
 use Rattle.disk_model.specs.declared.names.DiskName.{DiskName}
+use Rattle.disk_model.specs.Folders.{Folder}
 use Rattle.disk_model.specs.Handles.{SameAt}
 use Rattle.disk_model.specs.Images.{LeavesOnly}
 use Rattle.restore_trim.specs.Crashes.{OpeningLeaves}
-use Rattle.task_unit.specs.Units.{CommitLeaves}
-use Rattle.shipped_jobs.specs.WordCount.{word_count}
+use Rattle.unit_logs.specs.Commits.{CommitLeaves}
+use Rattle.task_unit.specs.Units.{LogsStay}
 use Rattle.samza_container.specs.Causes.{IsReady}
-use Rattle.samza_container.specs.Configured.{Folder, input_disk, task_disk}
-use Rattle.samza_container.specs.Runs.{Does, Reaches}
+use Rattle.samza_container.specs.Configured.{input_disk, task_disk}
+use Rattle.samza_container.specs.Runs.{fresh, AreChanges, Does, Start}
 
--- from this state on, the job did all messages, and a crash in the commit of what they left leaves these files
-pub record CommitsFrom (job : Meaning) (s : Setup) (messages : List Record) (from : ℕ) (old : State) (before : Image) (mark : Option Checkpoint) (contents : List Content) (after : Image) : Type 0 where
+-- The statuses with which a commit may have been begun: the run ended well, a device failed, memory was refused, or what was printed of
+-- one of these wasn't heard. With every other status nothing of a commit was written.
+abbrev pub MayCommit : ℕ → Type 0
+MayCommit status = (status ≡ 0) ⊎ ((status ≡ 4) ⊎ ((status ≡ 7) ⊎ (status ≡ 8)))
+
+-- from this state on, the job did all messages, and a crash in the commit of what they left leaves of an image these files
+pub record CommitsFrom (job : Meaning) (s : Setup) (messages : List Record) (from : ℕ) (state : State) (logs : Image) (mark : Option Checkpoint) (contents : List Content) (old new : Image) : Type 0 where
   pub left : State
-  pub does : Does job s messages from (length messages) old left
-  pub leaves : CommitLeaves s before after mark contents (length messages) left
+  pub does : Does job s messages from (length messages) state left
+  pub unlogged : List (List Record)
+  pub changes : AreChanges job s messages from (length messages) state left unlogged
+  pub leaves : CommitLeaves s logs old new mark contents (length messages) left unlogged
 
 -- what a crash leaves while a unit does its messages and commits: nothing was written yet, or the commit was begun
-abbrev pub FinishLeaves : Meaning → Setup → List Record → ℕ → State → Image → Option Checkpoint → List Content → Image → Image → Type 0
-FinishLeaves job s messages from state before mark contents old new = (new ≡ old) ⊎ CommitsFrom job s messages from state before mark contents new
+abbrev pub FinishLeaves : ℕ → Meaning → Setup → List Record → ℕ → State → Image → Option Checkpoint → List Content → Image → Image → Type 0
+FinishLeaves status job s messages from state logs mark contents old new =
+    (new ≡ old) ⊎ (MayCommit status × CommitsFrom job s messages from state logs mark contents old new)
 
--- The job did all messages that the task's checkpoint didn't cover, and a crash in the commit behind them leaves these files: with
--- the checkpoint before and its contents, or with the next one, which covers all messages, and just the contents that the job left.
-pub record LeftInCommit (job : Meaning) (s : Setup) (input : List ℕ) (before after : Image) : Type 0 where
-  pub mark : Option Checkpoint
-  pub messages : List Record
-  pub begun : ℕ
-  pub state : State
-  pub reached : Reaches job s input before mark messages begun (length messages) state
-  pub leaves : CommitLeaves s before after mark reached.stores (length messages) state
+-- The job did all messages that the task's checkpoint didn't cover, and a crash in the commit behind them leaves of an image of the opened
+-- files these: with the checkpoint before and its contents, or with the next one, which covers all messages, and just the contents that
+-- the job left.
+pub record LeftInCommit (job : Meaning) (s : Setup) (input : List ℕ) (before old new : Image) : Type 0 where
+  pub start : Start s input before
+  pub logs : Image
+  pub stay : LogsStay s start.mark before logs
+  pub opened : Image
+  pub opening : OpeningLeaves s old opened
+  pub commits : CommitsFrom job s start.messages start.begun (fresh s start.stores) logs start.mark start.stores opened new
 
--- What a crash inside a run leaves of files that read as `before` at its start. They restore as an image at the start did, and the
--- outputs have what they had there; or all messages were done, and they are what a crash in the commit leaves.
-abbrev pub RunLeaves : Meaning → Setup → List ℕ → Image → Image → Image → Type 0
-RunLeaves job s input before old new = OpeningLeaves s old new ⊎ LeftInCommit job s input before new
+-- What a crash inside a run that ended with this status leaves of files that read as `before` at its start. They restore as an image at
+-- the start did, and the outputs have what they had there; or all messages were done, and they are what a crash in the commit leaves.
+abbrev pub RunLeaves : ℕ → Meaning → Setup → List ℕ → Image → Image → Image → Type 0
+RunLeaves status job s input before old new = OpeningLeaves s old new ⊎ (MayCommit status × LeftInCommit job s input before old new)
 
--- a host's disk of a name is as it was, or a crash at any moment since then leaves of it what this says
-abbrev pub LeavesAt : {H : Type 0} → (H → DiskName → Image) → (H → DiskName → Image → Type 0) → (H → DiskName → ℕ → Image → Type 0) → (H → DiskName → ℕ) → (H → DiskName → ℕ)
+-- a crash at any moment since then leaves of a host's disk of a name what this says, and a read gives of it now what this says
+pub record WorkedAt {H : Type 0} (folder : H → Folder) (images : H → DiskName → Image → Type 0) (since : H → DiskName → ℕ → Image → Type 0) (number : H → DiskName → ℕ)
+    (old new : H) (n : DiskName) (step : Image → Image → Type 0) : Type 0 where
+  pub moment : LeavesOnly (λ h. number h n) (λ h. images h n) (λ h. since h n) old new step
+  pub reads : (d : Image) × images old n d × step d ((folder new).disks n)
+
+-- a host's disk of a name is as it was, or it moved so
+abbrev pub LeavesAt : {H : Type 0} → (H → Folder) → (H → DiskName → Image → Type 0) → (H → DiskName → ℕ → Image → Type 0) → (H → DiskName → ℕ)
     → H → H → DiskName → (Image → Image → Type 0) → Type 0
-LeavesAt reads images since number files old new n step =
-    SameAt reads images since number files old new n ⊎ LeavesOnly (λ h. number h n) (λ h. images h n) (λ h. since h n) old new step
+LeavesAt folder images since number old new n step = SameAt folder images since number old new n ⊎ WorkedAt folder images since number old new n step
 
--- what a crash inside the run of a folder's task leaves of the task's files
-abbrev pub FolderLeaves : Folder → Image → Image → Type 0
-FolderLeaves f old new = (s : Setup) × IsReady f s × RunLeaves word_count s (f.disks (input_disk s) 0) (f.disks task_disk) old new
+-- what a crash inside the run of a folder's task, which ended with this status, leaves of the task's files
+abbrev pub FolderLeaves : Folder → ℕ → Image → Image → Type 0
+FolderLeaves f status old new = (job : Meaning) × (s : Setup) × IsReady f job s × RunLeaves status job s (f.disks (input_disk s) 0) (f.disks task_disk) old new

@@ -1,6 +1,7 @@
 pub mod Causes
 pub mod ConfigText
 pub mod Configured
+pub mod Endings
 pub mod FaultText
 pub mod Leaves
 pub mod NotBuilt
@@ -8,5 +9,6 @@ pub mod ReportText
 pub mod Reported
 pub mod Runs
 pub mod SetUp
+pub mod Stops
 pub mod Texts
 pub mod Words

@@ -1,7 +1,7 @@
 // From the text of a configuration to the configuration.
 ghost use Rattle.std.specs.Prelude.{◌≡◌, ◌≢◌, None, IfOk, IfErr, option_map};
 ghost use Rattle.job_config.specs.Bounds.{IsBounded};
-ghost use Rattle.samza_container.specs.Causes.{status_of, IsPastWords};
+ghost use Rattle.samza_container.specs.Causes.{status_of, IsOfFolder};
 ghost use Rattle.samza_container.specs.ConfigText.{Answers, said_by};
 ghost use Rattle.samza_container.specs.Configured.{configured, if_built};
 ghost use Rattle.samza_container.specs.NotBuilt.{first_not_built};
@@ -20,7 +20,7 @@ const TEXT_LIMIT: usize = 1_048_576;
 pub(crate) fn read_config(alloc: Global, text: &[u8]) -> Result<JobConfig, RunFault>
     ensures says { Answers result (said_by text.now) }
     ensures bounded { IfOk result IsBounded }
-    ensures kind { IfErr result (λ e. IsPastWords e × (status_of e ≢ 4)) }
+    ensures kind { IfErr result (λ e. IsOfFolder e × (status_of e ≢ 4)) }
 {
     if text.len() > TEXT_LIMIT {
         return Err(RunFault::TextLimit);
@@ -42,7 +42,7 @@ fn built_config(alloc: Global, text: &[u8]) -> Result<JobConfig, RunFault>
     ensures says { Answers result (if_built (said_by text.now)) }
     ensures bounded { IfOk result IsBounded }
     ensures built { IfOk result (λ c. first_not_built c ≡ None) }
-    ensures kind { IfErr result (λ e. IsPastWords e × (status_of e ≢ 4)) }
+    ensures kind { IfErr result (λ e. IsOfFolder e × (status_of e ≢ 4)) }
 {
     let config = match read_config(alloc, text) {
         Ok(config) => config,
@@ -60,7 +60,7 @@ pub(crate) fn folder_config(alloc: Global, text: Option<Vec<u8>>) -> Result<JobC
     ensures says { Answers result (configured (option_map (λ v. v.items) text)) }
     ensures bounded { IfOk result IsBounded }
     ensures built { IfOk result (λ c. first_not_built c ≡ None) }
-    ensures kind { IfErr result (λ e. IsPastWords e × (status_of e ≢ 4)) }
+    ensures kind { IfErr result (λ e. IsOfFolder e × (status_of e ≢ 4)) }
 {
     match text {
         None => Err(RunFault::NoText),

@@ -1,10 +1,10 @@
 // Why a run ends otherwise than well, and the status that tells it.
 ghost use Rattle.std.specs.Prelude.{◌≡◌, ◌≢◌};
-ghost use Rattle.samza_container.specs.Causes.{open_status, status_of, host_fault};
+ghost use Rattle.samza_container.specs.Causes.{failure_status, open_status, status_of, host_fault};
 
 use disk_model::HostFault;
 use job_config::What;
-use samza_model::{Bin, Failure, NoMemory, Ssp};
+use samza_model::{Bin, Failure, NoMemory, Ssp, TaskName, Why};
 use std::alloc::Global;
 use task_unit::OpenFault;
 
@@ -69,9 +69,20 @@ fn open_status(fault: &OpenFault) -> u8
     }
 }
 
+fn failure_status(why: Why) -> u8
+    ensures status { result ≡ failure_status why }
+    ensures other { (result ≢ 0) × (result ≢ 7) }
+{
+    match why {
+        Why::Code(_) | Why::TooMany | Why::Limits => 5,
+        Why::Expired { .. } => 11,
+    }
+}
+
 impl RunFault {
     /// The status with which the program ends: 2 for the words, 3 for the configuration, 4 where a device failed, 5 where
-    /// the job failed, 6 for files that can't be run on, 8 for want of memory, and 9 for a limit.
+    /// the job failed, 6 for files that can't be run on, 8 for want of memory, 9 for a limit, and 11 where a message's time ran
+    /// out.
     pub fn status(&self) -> u8
         ensures status { result ≡ status_of self.now }
         ensures other { (result ≢ 0) × (result ≢ 7) }
@@ -85,17 +96,19 @@ impl RunFault {
             | RunFault::NoPartition => 3,
             RunFault::Device => 4,
             RunFault::NotOpened(fault) => open_status(fault),
-            RunFault::Failed(_) => 5,
+            RunFault::Failed(failure) => failure_status(failure.why),
             RunFault::TextLimit | RunFault::Limit => 9,
             RunFault::NoMemory => 8,
         }
     }
 }
 
-/// Why a command stopped, and the inputs that the line of a task's fault names: none, where it didn't come to its task.
+/// Why a command stopped, with the task and the inputs that the line of a task's fault names: none, where it didn't come to its
+/// task.
 #[derive(Debug, Drop)]
 pub(crate) struct Stopped {
     pub(crate) fault: RunFault,
+    pub(crate) task: TaskName,
     pub(crate) inputs: Vec<Ssp>,
 }
 
@@ -106,6 +119,7 @@ impl Stopped {
     {
         Stopped {
             fault,
+            task: TaskName(0),
             inputs: Vec::new(alloc),
         }
     }

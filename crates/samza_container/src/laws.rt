@@ -1,12 +1,11 @@
 // Laws of the definitions.
 ghost use Rattle.std.specs.Prelude.{◌≡◌, ◌≢◌, ℕ, List, None};
-ghost use Rattle.samza_model.specs.Files.{Image};
+ghost use Rattle.disk_model.specs.Folders.{Folder};
 ghost use Rattle.job_config.specs.declared.config.JobConfig.{JobConfig};
 ghost use Rattle.job_config.specs.Bounds.{IsBounded};
 ghost use Rattle.samza_container.specs.declared.faults.RunFault.{RunFault as RunFaultValue};
-ghost use Rattle.samza_container.specs.Causes.{IsRun, WhyStopped, status_of};
-ghost use Rattle.samza_container.specs.Configured.{Folder};
-ghost use Rattle.task_unit.specs.Units.{IsSetUp};
+ghost use Rattle.samza_container.specs.Causes.{Runnable, WhyStopped, status_of};
+ghost use Rattle.unit_logs.specs.Standing.{IsSetUp};
 ghost use Rattle.samza_container.specs.NotBuilt.{first_not_built};
 ghost use Rattle.samza_container.specs.SetUp.{setup_of};
 ghost use Rattle.samza_container.specs.Words.{IsCommand};
@@ -14,12 +13,12 @@ ghost use Rattle.samza_container.specs.Words.{IsCommand};
 /// Where a command's folder can be run to its end there is no cause for it to stop: beside the faults of a device and of
 /// memory, with the statuses 4 and 8, no fault has one.
 pub fn runs_or_says_why()
-    ensures { (words : List (List ℕ)) (f : Folder) (after : Image) (e : RunFaultValue) → IsCommand words → IsRun f after → status_of e ≢ 4 → status_of e ≢ 8 → WhyStopped words f e → ⊥ }
+    ensures { (words : List (List ℕ)) (f : Folder) (e : RunFaultValue) → IsCommand words → Runnable f → status_of e ≢ 4 → status_of e ≢ 8 → WhyStopped words f e → ⊥ }
 {}
 
-/// A command's folder has one status with which its run stops, beside 4 and 8.
-pub fn stops_with_one_status()
-    ensures { (words : List (List ℕ)) (f : Folder) (e e' : RunFaultValue) → IsCommand words → status_of e ≢ 4 → status_of e ≢ 8 → status_of e' ≢ 4 → status_of e' ≢ 8 → WhyStopped words f e → WhyStopped words f e' → status_of e ≡ status_of e' }
+/// A command's folder has one cause for which its run stops, beside those of the statuses 4 and 8.
+pub fn stops_with_one_cause()
+    ensures { (words : List (List ℕ)) (f : Folder) (e e' : RunFaultValue) → IsCommand words → status_of e ≢ 4 → status_of e ≢ 8 → status_of e' ≢ 4 → status_of e' ≢ 8 → WhyStopped words f e → WhyStopped words f e' → e ≡ e' }
 {}
 
 /// A configuration of which all is built sets up a task for which a unit is opened: it has one input, and its checkpoints

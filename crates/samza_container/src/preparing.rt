@@ -1,13 +1,14 @@
 // What is looked at before a task runs: the folder, its configuration, and the partitions of its input.
-ghost use Rattle.std.specs.Prelude.{◌≡◌, ◌≤◌, ◌⊎◌, None, Ok, IfErr, IfOk, OnOk};
+ghost use Rattle.std.specs.Prelude.{◌≡◌, ◌≤◌, ◌⊎◌, None, Some, Ok, IfErr, IfOk, OnOk};
 ghost use Rattle.samza_model.specs.Counters.{Rose};
 ghost use Rattle.disk_model.specs.Handles.{AsMany, SameAt};
 ghost use Rattle.disk_model.specs.declared.names.DiskName.{DiskName as DiskNameValue};
 ghost use Rattle.job_config.specs.Bounds.{IsBounded};
-ghost use Rattle.task_unit.specs.Units.{IsSetUp};
-ghost use Rattle.samza_container.specs.Causes.{status_of, IsReady, IsPastWords, WhyNotOne, WhyNotReady};
-ghost use Rattle.samza_container.specs.Configured.{configured, folder_of, input_disk};
+ghost use Rattle.unit_logs.specs.Standing.{IsSetUp};
+ghost use Rattle.samza_container.specs.Causes.{ends_with, status_of, HasEntered, IsOfFolder, IsReady, WhyNotOne, WhyNotReady};
+ghost use Rattle.samza_container.specs.Configured.{configured, input_disk};
 ghost use Rattle.samza_container.specs.NotBuilt.{first_not_built};
+ghost use Rattle.shipped_jobs.specs.WordCount.{word_count};
 
 use crate::RunFault;
 use crate::config_text::folder_config;
@@ -20,15 +21,16 @@ use std::alloc::Global;
 
 /// Enters the folder, and reads its configuration, of which all is built.
 fn configure<H: Host>(alloc: Global, folder: &str, host: &mut H) -> Result<JobConfig, RunFault>
-    ensures configured { IfOk result (λ c. H.tells → configured (H.text_of host.old) ≡ Ok c) }
+    ensures configured { IfOk result (λ c. H.tells → configured (H.folder host.old).text ≡ Ok c) }
     ensures bounded { IfOk result IsBounded }
     ensures built { IfOk result (λ c. first_not_built c ≡ None) }
-    ensures why { IfErr result (λ e. H.tells → WhyNotReady (folder_of (H.text_of host.old) (H.file_count host.old) (H.reads host.old)) e) }
-    ensures past { IfErr result IsPastWords }
-    ensures disks { H.tells → (n : DiskNameValue) → SameAt H.reads H.images H.images_since H.call_number H.file_count host.old host.new n }
+    ensures why { IfErr result (λ e. H.tells → WhyNotReady (H.folder host.old) e) }
+    ensures of_folder { IfErr result IsOfFolder }
+    ensures disks { H.tells → (n : DiskNameValue) → SameAt H.folder H.images H.images_since H.call_number host.old host.new n }
     ensures disks_out { AsMany (H.disks_out host.old) (H.disks_out host.new) }
     ensures shelves_out { AsMany (H.shelves_out host.old) (H.shelves_out host.new) }
     ensures device { IfErr result (λ e. status_of e ≡ 4 → Rose (H.fault_count host.old) (H.fault_count host.new)) }
+    ensures entered { HasEntered (ends_with result) → H.entered host.new ≡ Some folder.now }
     ensures later { H.fault_count host.old ≤ H.fault_count host.new }
 {
     match host.enter(alloc, folder) {
@@ -55,13 +57,14 @@ fn not_built(alloc: Global, key: &[u8]) -> RunFault
 /// Looks whether a setup's input has one partition.
 fn check_partitions<H: Host>(alloc: Global, setup: &Setup, host: &mut H) -> Result<(), RunFault>
     requires { IsSetUp setup.now }
-    ensures one { OnOk result (H.tells → H.file_count host.old (input_disk setup.now) ≡ 1) }
-    ensures why { IfErr result (λ e. H.tells → WhyNotOne (H.file_count host.old (input_disk setup.now)) e) }
-    ensures past { IfErr result IsPastWords }
-    ensures disks { H.tells → (n : DiskNameValue) → SameAt H.reads H.images H.images_since H.call_number H.file_count host.old host.new n }
+    ensures one { OnOk result (H.tells → (H.folder host.old).files (input_disk setup.now) ≡ 1) }
+    ensures why { IfErr result (λ e. H.tells → WhyNotOne ((H.folder host.old).files (input_disk setup.now)) e) }
+    ensures of_folder { IfErr result IsOfFolder }
+    ensures disks { H.tells → (n : DiskNameValue) → SameAt H.folder H.images H.images_since H.call_number host.old host.new n }
     ensures disks_out { AsMany (H.disks_out host.old) (H.disks_out host.new) }
     ensures shelves_out { AsMany (H.shelves_out host.old) (H.shelves_out host.new) }
     ensures device { IfErr result (λ e. status_of e ≡ 4 → Rose (H.fault_count host.old) (H.fault_count host.new)) }
+    ensures entered { H.entered host.new ≡ H.entered host.old }
     ensures later { H.fault_count host.old ≤ H.fault_count host.new }
 {
     let input = input_of(setup);
@@ -76,13 +79,14 @@ fn check_partitions<H: Host>(alloc: Global, setup: &Setup, host: &mut H) -> Resu
 /// The setup of the folder's task, if the folder can be run.
 pub(crate) fn prepare<H: Host>(alloc: Global, folder: &str, host: &mut H) -> Result<Setup, RunFault>
     ensures set_up { IfOk result IsSetUp }
-    ensures ready { IfOk result (λ s. H.tells → IsReady (folder_of (H.text_of host.old) (H.file_count host.old) (H.reads host.old)) s) }
-    ensures why { IfErr result (λ e. H.tells → WhyNotReady (folder_of (H.text_of host.old) (H.file_count host.old) (H.reads host.old)) e) }
-    ensures past { IfErr result IsPastWords }
-    ensures disks { H.tells → (n : DiskNameValue) → SameAt H.reads H.images H.images_since H.call_number H.file_count host.old host.new n }
+    ensures ready { IfOk result (λ s. H.tells → IsReady (H.folder host.old) word_count s) }
+    ensures why { IfErr result (λ e. H.tells → WhyNotReady (H.folder host.old) e) }
+    ensures of_folder { IfErr result IsOfFolder }
+    ensures disks { H.tells → (n : DiskNameValue) → SameAt H.folder H.images H.images_since H.call_number host.old host.new n }
     ensures disks_out { AsMany (H.disks_out host.old) (H.disks_out host.new) }
     ensures shelves_out { AsMany (H.shelves_out host.old) (H.shelves_out host.new) }
     ensures device { IfErr result (λ e. status_of e ≡ 4 → Rose (H.fault_count host.old) (H.fault_count host.new)) }
+    ensures entered { HasEntered (ends_with result) → H.entered host.new ≡ Some folder.now }
     ensures later { H.fault_count host.old ≤ H.fault_count host.new }
 {
     let config = match configure(alloc, folder, host) {

@@ -6,14 +6,17 @@ ghost use Rattle.samza_model.specs.Counters.{Rose};
 ghost use Rattle.samza_model.specs.Files.{Image};
 ghost use Rattle.samza_model.specs.Restored.{Restores};
 ghost use Rattle.disk_model.specs.Images.{LeavesOnly};
-ghost use Rattle.task_unit.specs.Units.{IsSetUp, IsFailed, NothingUnlogged, appended_at};
-ghost use Rattle.samza_container.specs.Causes.{status_of, IsOfTask, WhyNotFinished, WhyUnfinished};
+ghost use Rattle.unit_logs.specs.Standing.{IsSetUp};
+ghost use Rattle.output_log.specs.Outputs.{cleared_at};
+ghost use Rattle.task_unit.specs.Units.{IsFailed, NothingUnlogged};
+ghost use Rattle.samza_container.specs.Causes.{ends_with, status_of, TellsOf, WhyNotFinished, WhyUnfinished};
 ghost use Rattle.samza_container.specs.Leaves.{FinishLeaves, RunLeaves};
 ghost use Rattle.samza_container.specs.Reported.{FinishesAs, FinishesWith, Reported};
 ghost use Rattle.samza_container.specs.Runs.{Advances};
 
 use crate::RunFault;
-use crate::unit_reports::unit_report;
+use crate::reports::TaskReport;
+use crate::unit_reports::task_report;
 use disk_model::{Disk, Shelf};
 use samza_model::{Job, Setup};
 use std::alloc::Global;
@@ -43,11 +46,10 @@ fn do_all<'j, J: Job, D: Disk, S: Shelf>(unit: &mut OneUnit<'j, J, D, S>) -> Res
     requires within { unit.old.next ≤ length unit.old.messages }
     requires logged { NothingUnlogged unit.old.setup unit.old.unlogged }
     requires sound { unit.old.broken ≡ false }
-    ensures done { OnOk result (D.tells → FinishesAs (J.meaning unit.old.job) (D.reads unit.old.disk) (D.reads unit.new.disk) unit.old unit.new) }
-    ensures durable { OnOk result (D.tells → (c : Image) → D.images unit.new.disk c → FinishesAs (J.meaning unit.old.job) (D.reads unit.old.disk) c unit.old unit.new) }
+    ensures done { OnOk result (D.tells → FinishesAs (J.meaning unit.old.job) (D.reads unit.old.disk) (D.reads unit.new.disk) (D.images unit.new.disk) unit.old unit.new) }
     ensures any_moment { D.tells → (contents : List Content) → Restores unit.old.setup (D.reads unit.old.disk) unit.old.mark contents
-        → LeavesOnly D.call_number D.images D.images_since unit.old.disk unit.new.disk (FinishLeaves (J.meaning unit.old.job) unit.old.setup unit.old.messages unit.old.next unit.old.state (D.reads unit.old.disk) unit.old.mark contents) }
-    ensures why { IfErr result (λ e. WhyNotFinished D.tells (J.meaning unit.old.job) unit.old.setup (D.reads unit.old.disk) unit.old.messages unit.old.begun unit.old.next unit.old.state e) }
+        → LeavesOnly D.call_number D.images D.images_since unit.old.disk unit.new.disk (FinishLeaves (ends_with result) (J.meaning unit.old.job) unit.old.setup unit.old.messages unit.old.next unit.old.state (D.reads unit.old.disk) unit.old.mark contents) }
+    ensures why { IfErr result (λ e. WhyNotFinished D.tells (J.meaning unit.old.job) unit.old.setup (D.reads unit.old.disk) unit.old.mark unit.old.messages unit.old.begun unit.old.next unit.old.state e) }
     ensures device { IfErr result (λ e. status_of e ≡ 4 → Rose (D.fault_count unit.old.disk) (D.fault_count unit.new.disk)) }
     ensures later { D.fault_count unit.old.disk ≤ D.fault_count unit.new.disk }
     ensures name { D.name unit.new.disk ≡ D.name unit.old.disk }
@@ -72,50 +74,48 @@ fn do_all<'j, J: Job, D: Disk, S: Shelf>(unit: &mut OneUnit<'j, J, D, S>) -> Res
     }
 }
 
-/// Processes a unit's messages up to its input's end, commits, and answers the report.
+/// Processes a unit's messages up to its input's end, commits, and answers what is told of it.
 fn finish<'j, J: Job, D: Disk, S: Shelf>(
     alloc: Global,
     unit: &mut OneUnit<'j, J, D, S>,
-) -> Result<Vec<u8>, RunFault>
+) -> Result<TaskReport, RunFault>
     requires within { unit.old.next ≤ length unit.old.messages }
     requires logged { NothingUnlogged unit.old.setup unit.old.unlogged }
     requires sound { unit.old.broken ≡ false }
-    ensures done { IfOk result (λ text. D.tells → FinishesWith (J.meaning unit.old.job) unit.old.setup unit.old.messages unit.old.begun unit.old.next unit.old.state (D.reads unit.old.disk) (D.reads unit.new.disk) unit.old.mark (appended_at unit.old.appended) text.items) }
-    ensures durable { IfOk result (λ text. D.tells → (c : Image) → D.images unit.new.disk c → FinishesWith (J.meaning unit.old.job) unit.old.setup unit.old.messages unit.old.begun unit.old.next unit.old.state (D.reads unit.old.disk) c unit.old.mark (appended_at unit.old.appended) text.items) }
+    ensures done { IfOk result (λ r. D.tells → FinishesWith (J.meaning unit.old.job) unit.old.setup unit.old.messages unit.old.begun unit.old.next unit.old.state (D.reads unit.old.disk) (D.reads unit.new.disk) (D.images unit.new.disk) unit.old.mark (cleared_at unit.old.cleared) r) }
     ensures any_moment { D.tells → (contents : List Content) → Restores unit.old.setup (D.reads unit.old.disk) unit.old.mark contents
-        → LeavesOnly D.call_number D.images D.images_since unit.old.disk unit.new.disk (FinishLeaves (J.meaning unit.old.job) unit.old.setup unit.old.messages unit.old.next unit.old.state (D.reads unit.old.disk) unit.old.mark contents) }
-    ensures why { IfErr result (λ e. WhyNotFinished D.tells (J.meaning unit.old.job) unit.old.setup (D.reads unit.old.disk) unit.old.messages unit.old.begun unit.old.next unit.old.state e) }
+        → LeavesOnly D.call_number D.images D.images_since unit.old.disk unit.new.disk (FinishLeaves (ends_with result) (J.meaning unit.old.job) unit.old.setup unit.old.messages unit.old.next unit.old.state (D.reads unit.old.disk) unit.old.mark contents) }
+    ensures why { IfErr result (λ e. WhyNotFinished D.tells (J.meaning unit.old.job) unit.old.setup (D.reads unit.old.disk) unit.old.mark unit.old.messages unit.old.begun unit.old.next unit.old.state e) }
     ensures device { IfErr result (λ e. status_of e ≡ 4 → Rose (D.fault_count unit.old.disk) (D.fault_count unit.new.disk)) }
     ensures later { D.fault_count unit.old.disk ≤ D.fault_count unit.new.disk }
     ensures name { D.name unit.new.disk ≡ D.name unit.old.disk }
     ensures shelf { unit.new.shelf ≡ unit.old.shelf }
 {
     match do_all(unit) {
-        Ok(()) => match unit_report(alloc, unit) {
-            Ok(text) => Ok(text),
+        Ok(()) => match task_report(alloc, unit) {
+            Ok(report) => Ok(report),
             Err(_) => Err(RunFault::NoMemory),
         },
         Err(fault) => Err(fault),
     }
 }
 
-/// Opens a task, processes its messages up to its input's end, commits, and answers the report. The disk and the shelf come
-/// back.
+/// Opens a task, processes its messages up to its input's end, commits, and answers what is told of it. The disk and the shelf
+/// come back.
 pub(crate) fn work<J: Job, D: Disk, S: Shelf>(
     alloc: Global,
     job: &J,
     setup: Setup,
     disk: D,
     shelf: S,
-) -> (Result<Vec<u8>, RunFault>, D, S)
+) -> (Result<TaskReport, RunFault>, D, S)
     requires { IsSetUp setup }
-    ensures ran { IfOk result.0 (λ text. D.tells → S.tells → Reported (J.meaning (J.plain job.now)) setup (S.bytes shelf) (D.reads disk) (D.reads result.1) text.items) }
     // After Ok a crash leaves nothing else.
-    ensures durable { IfOk result.0 (λ text. D.tells → S.tells → (c : Image) → D.images result.1 c → Reported (J.meaning (J.plain job.now)) setup (S.bytes shelf) (D.reads disk) c text.items) }
+    ensures ran { IfOk result.0 (λ r. D.tells → S.tells → Reported (J.meaning (J.plain job.now)) setup (S.bytes shelf) (D.reads disk) (D.reads result.1) (D.images result.1) r) }
     // A crash at any moment leaves files that restore as before, or with what the whole input makes of them.
-    ensures any_moment { D.tells → S.tells → LeavesOnly D.call_number D.images D.images_since disk result.1 (RunLeaves (J.meaning (J.plain job.now)) setup (S.bytes shelf) (D.reads disk)) }
+    ensures any_moment { D.tells → S.tells → LeavesOnly D.call_number D.images D.images_since disk result.1 (RunLeaves (ends_with result.0) (J.meaning (J.plain job.now)) setup (S.bytes shelf) (D.reads disk)) }
     ensures why { IfErr result.0 (λ e. D.tells → S.tells → WhyUnfinished (J.meaning (J.plain job.now)) setup (S.bytes shelf) (D.reads disk) e) }
-    ensures of_task { IfErr result.0 IsOfTask }
+    ensures told { IfErr result.0 (TellsOf setup) }
     ensures device { IfErr result.0 (λ e. status_of e ≡ 4 → Rose (D.fault_count disk) (D.fault_count result.1) ⊎ Rose (S.fault_count shelf) (S.fault_count result.2)) }
     ensures disk { (D.name result.1 ≡ D.name disk) × (D.fault_count disk ≤ D.fault_count result.1) }
     ensures shelf { (S.name result.2 ≡ S.name shelf) × (S.fault_count shelf ≤ S.fault_count result.2) }

@@ -1,18 +1,16 @@
 // The program's top call.
-ghost use Rattle.std.specs.Prelude.{◌≡◌, ◌≢◌, ◌≤◌, ◌⊎◌, ◌++◌, ◌↔◌, ℕ, List, IfOk, IfErr, OnOk, map, string_bytes};
+ghost use Rattle.std.specs.Prelude.{◌≡◌, ◌≢◌, ◌≤◌, ◌⊎◌, ◌∷◌, [], ℕ, List, Some, IfOk, IfErr, OnOk, map, string_bytes};
 ghost use Rattle.samza_model.specs.Counters.{Rose};
-ghost use Rattle.samza_model.specs.Files.{Image};
-ghost use Rattle.samza_model.specs.declared.messages.Ssp.{Ssp as SspValue};
-ghost use Rattle.edge_io.specs.Received.{TookPart};
 ghost use Rattle.disk_model.specs.Handles.{NoneOut, SameAt};
 ghost use Rattle.disk_model.specs.declared.names.DiskName.{DiskName as DiskNameValue};
 ghost use Rattle.shipped_jobs.specs.WordCount.{word_count};
-ghost use Rattle.task_unit.specs.Units.{IsSetUp};
-ghost use Rattle.samza_container.specs.declared.faults.RunFault.{RunFault as RunFaultValue};
-ghost use Rattle.samza_container.specs.Causes.{status_of, IsOfTask, WhyUnfinished};
-ghost use Rattle.samza_container.specs.Configured.{folder_of, input_disk, task_disk};
+ghost use Rattle.unit_logs.specs.Standing.{IsSetUp};
+ghost use Rattle.samza_container.specs.Causes.{HasEntered, IsTasks, Runnable, TellsOf, WhyUnfinished};
+ghost use Rattle.samza_container.specs.Configured.{input_disk, task_disk};
+ghost use Rattle.samza_container.specs.Endings.{CutsLine, CutsReport, EndsWell, NothingFails, StopsFor, Tried};
 ghost use Rattle.samza_container.specs.Leaves.{FolderLeaves, LeavesAt, RunLeaves};
-ghost use Rattle.samza_container.specs.Reported.{line_of, sink_line, IsNamed, IsReported, IsStopped, Reported, Tried};
+ghost use Rattle.samza_container.specs.Reported.{sink_line, IsCause, IsOf, Reported, RunsTo};
+ghost use Rattle.samza_container.specs.Stops.{stops_with};
 ghost use Rattle.samza_container.specs.Words.{IsCommand};
 
 use crate::RunFault;
@@ -20,6 +18,7 @@ use crate::faults::Stopped;
 use crate::hosting::run_task;
 use crate::preparing::prepare;
 use crate::printing::{put_fault, put_report};
+use crate::reports::TaskReport;
 use crate::setups::{input_disk, inputs_of};
 use crate::words::read_words;
 use disk_model::{DiskName, Host};
@@ -28,43 +27,50 @@ use samza_model::Setup;
 use shipped_jobs::WordCount;
 use std::alloc::Global;
 
-/// Runs the one task that is set up so, and answers the report.
-fn run_set_up<H: Host>(alloc: Global, setup: Setup, host: &mut H) -> Result<Vec<u8>, Stopped>
+/// Runs the one task that is set up so, and answers what is told of it.
+fn run_set_up<H: Host>(alloc: Global, setup: Setup, host: &mut H) -> Result<TaskReport, Stopped>
     requires set_up { IsSetUp setup }
     requires none_out { NoneOut (H.disks_out host.old) (H.shelves_out host.old) }
-    ensures ran { IfOk result (λ text. H.tells → Reported word_count setup (H.reads host.old (input_disk setup) 0) (H.reads host.old task_disk) (H.reads host.new task_disk) text.items) }
-    ensures durable { IfOk result (λ text. H.tells → (c : Image) → H.images host.new task_disk c → Reported word_count setup (H.reads host.old (input_disk setup) 0) (H.reads host.old task_disk) c text.items) }
-    ensures any_moment { H.tells → LeavesAt H.reads H.images H.images_since H.call_number H.file_count host.old host.new task_disk (RunLeaves word_count setup (H.reads host.old (input_disk setup) 0) (H.reads host.old task_disk)) }
-    ensures why { IfErr result (λ s. H.tells → WhyUnfinished word_count setup (H.reads host.old (input_disk setup) 0) (H.reads host.old task_disk) s.fault) }
-    ensures of_task { IfErr result (λ s. IsOfTask s.fault) }
-    ensures named { IfErr result (λ s. IsNamed setup s.fault s.inputs.items) }
-    ensures others { H.tells → (n : DiskNameValue) → n ≢ task_disk → SameAt H.reads H.images H.images_since H.call_number H.file_count host.old host.new n }
+    ensures ran { IfOk result (λ r. H.tells → Reported word_count setup ((H.folder host.old).disks (input_disk setup) 0) ((H.folder host.old).disks task_disk) ((H.folder host.new).disks task_disk) (H.images host.new task_disk) r) }
+    ensures any_moment { H.tells → LeavesAt H.folder H.images H.images_since H.call_number host.old host.new task_disk (RunLeaves (stops_with result) word_count setup ((H.folder host.old).disks (input_disk setup) 0) ((H.folder host.old).disks task_disk)) }
+    ensures why { IfErr result (λ s. H.tells → WhyUnfinished word_count setup ((H.folder host.old).disks (input_disk setup) 0) ((H.folder host.old).disks task_disk) s.fault) }
+    ensures told { IfErr result (λ s. TellsOf setup s.fault) }
+    ensures named { IfErr result (λ s. IsTasks s.fault → IsOf setup s.task s.inputs.items) }
+    ensures others { H.tells → (n : DiskNameValue) → n ≢ task_disk → SameAt H.folder H.images H.images_since H.call_number host.old host.new n }
+    ensures entered { H.entered host.new ≡ H.entered host.old }
     ensures back { NoneOut (H.disks_out host.new) (H.shelves_out host.new) }
-    ensures device { IfErr result (λ s. status_of s.fault ≡ 4 → Rose (H.fault_count host.old) (H.fault_count host.new)) }
+    ensures device { stops_with result ≡ 4 → Rose (H.fault_count host.old) (H.fault_count host.new) }
     ensures later { H.fault_count host.old ≤ H.fault_count host.new }
 {
     let (Ok(input), Ok(inputs)) = (input_disk(alloc, &setup), inputs_of(alloc, &setup)) else {
         return Err(Stopped::before_task(alloc, RunFault::NoMemory));
     };
+    let name = setup.task;
     let task = DiskName::Task(0);
     match run_task(alloc, &WordCount, setup, &task, &input, 0, host) {
-        Ok(text) => Ok(text),
-        Err(fault) => Err(Stopped { fault, inputs }),
+        Ok(report) => Ok(report),
+        Err(fault) => Err(Stopped {
+            fault,
+            task: name,
+            inputs,
+        }),
     }
 }
 
-/// Runs a command: its words, the folder, the configuration, the input's partitions, and then the task. It answers the report.
-fn run<H: Host>(alloc: Global, words: &[String], host: &mut H) -> Result<Vec<u8>, Stopped>
+/// Runs a command: its words, the folder, the configuration, the input's partitions, and then the task. It answers what is told
+/// of the task.
+fn run<H: Host>(alloc: Global, words: &[String], host: &mut H) -> Result<TaskReport, Stopped>
     requires none_out { NoneOut (H.disks_out host.old) (H.shelves_out host.old) }
+    ensures ran { IfOk result (λ r. H.tells → RunsTo (H.folder host.old) ((H.folder host.new).disks task_disk) (H.images host.new task_disk) r) }
+    ensures any_moment { H.tells → LeavesAt H.folder H.images H.images_since H.call_number host.old host.new task_disk (FolderLeaves (H.folder host.old) (stops_with result)) }
     ensures command { OnOk result (IsCommand (map string_bytes words.now)) }
-    ensures ran { IfOk result (λ text. H.tells → IsReported (folder_of (H.text_of host.old) (H.file_count host.old) (H.reads host.old)) (H.reads host.new task_disk) text.items) }
-    ensures durable { IfOk result (λ text. H.tells → (c : Image) → H.images host.new task_disk c → IsReported (folder_of (H.text_of host.old) (H.file_count host.old) (H.reads host.old)) c text.items) }
-    ensures any_moment { H.tells → LeavesAt H.reads H.images H.images_since H.call_number H.file_count host.old host.new task_disk (FolderLeaves (folder_of (H.text_of host.old) (H.file_count host.old) (H.reads host.old))) }
-    ensures words { IfErr result (λ s. (status_of s.fault ≡ 2) ↔ (IsCommand (map string_bytes words.now) → ⊥)) }
-    ensures why { IfErr result (λ s. H.tells → IsStopped (map string_bytes words.now) (folder_of (H.text_of host.old) (H.file_count host.old) (H.reads host.old)) s.inputs.items s.fault) }
-    ensures others { H.tells → (n : DiskNameValue) → n ≢ task_disk → SameAt H.reads H.images H.images_since H.call_number H.file_count host.old host.new n }
+    ensures cause { IfErr result (λ s. IsCause H.tells (map string_bytes words.now) (H.folder host.old) s.task s.inputs.items s.fault) }
+    ensures no_command { (IsCommand (map string_bytes words.now) → ⊥) → stops_with result ≡ 2 }
+    ensures refused { stops_with result ≡ 2 → (IsCommand (map string_bytes words.now) → ⊥) × (host.new ≡ host.old) }
+    ensures others { H.tells → (n : DiskNameValue) → n ≢ task_disk → SameAt H.folder H.images H.images_since H.call_number host.old host.new n }
+    ensures entered { HasEntered (stops_with result) → (word folder : List ℕ) → map string_bytes words.now ≡ word ∷ folder ∷ [] → H.entered host.new ≡ Some folder }
     ensures back { NoneOut (H.disks_out host.new) (H.shelves_out host.new) }
-    ensures device { IfErr result (λ s. status_of s.fault ≡ 4 → Rose (H.fault_count host.old) (H.fault_count host.new)) }
+    ensures device { stops_with result ≡ 4 → Rose (H.fault_count host.old) (H.fault_count host.new) }
     ensures later { H.fault_count host.old ≤ H.fault_count host.new }
 {
     let folder = match read_words(words) {
@@ -91,41 +97,39 @@ pub fn samza_main<H: Host, W: Sink, E: Sink>(
 ) -> u8
     requires none_out { NoneOut (H.disks_out host.old) (H.shelves_out host.old) }
 
-    // The folder was run, from its bytes before to those after, and to those that a crash may leave from then on; and the
-    // report of just that was printed.
-    ensures reported { result ≡ 0 → (text : List ℕ) × (H.tells → IsReported (folder_of (H.text_of host.old) (H.file_count host.old) (H.reads host.old)) (H.reads host.new task_disk) text)
-        × (H.tells → (c : Image) → H.images host.new task_disk c → IsReported (folder_of (H.text_of host.old) (H.file_count host.old) (H.reads host.old)) c text) × (W.tells → W.received out.new ≡ W.received out.old ++ text) }
-    ensures nothing_told { result ≡ 0 → err.new ≡ err.old }
-
-    // Each other status but 7 has its cause, and the line of just that was printed.
-    ensures words { result ≡ 2 → IsCommand (map string_bytes words.now) → ⊥ }
-    ensures no_command { (IsCommand (map string_bytes words.now) → ⊥) → (result ≡ 2) ⊎ ((result ≡ 7) ⊎ (result ≡ 8)) }
-    ensures why { result ≢ 0 → result ≢ 7 → (e : RunFaultValue) × (inputs : List SspValue) × (result ≡ status_of e)
-        × (H.tells → IsStopped (map string_bytes words.now) (folder_of (H.text_of host.old) (H.file_count host.old) (H.reads host.old)) inputs e)
-        × (E.tells → E.received err.new ≡ E.received err.old ++ line_of inputs e) }
-    ensures nothing_reported { result ≢ 0 → result ≢ 7 → out.new ≡ out.old }
-    ensures device { result ≡ 4 → Rose (H.fault_count host.old) (H.fault_count host.new) }
-
-    // With status 7 a sink failed, behind a run or behind a cause.
-    ensures sink { result ≡ 7 → Rose (W.fault_count out.old) (W.fault_count out.new) ⊎ Rose (E.fault_count err.old) (E.fault_count err.new) }
-    ensures cut { result ≡ 7 →
-        ((text : List ℕ) × (H.tells → IsReported (folder_of (H.text_of host.old) (H.file_count host.old) (H.reads host.old)) (H.reads host.new task_disk) text)
-        × (W.tells → TookPart text (W.received out.old) (W.received out.new)) × Tried E.tells sink_line (E.received err.old) (E.received err.new) (E.fault_count err.old) (E.fault_count err.new))
-        ⊎ ((e : RunFaultValue) × (inputs : List SspValue) × (H.tells → IsStopped (map string_bytes words.now) (folder_of (H.text_of host.old) (H.file_count host.old) (H.reads host.old)) inputs e)
-        × (out.new ≡ out.old) × (E.tells → TookPart (line_of inputs e) (E.received err.old) (E.received err.new))) }
-
     // Whatever the status, a crash at any moment of the run leaves of the task's files the checkpoint before or the next one, each
-    // with just its contents.
-    ensures any_moment { H.tells → LeavesAt H.reads H.images H.images_since H.call_number H.file_count host.old host.new task_disk (FolderLeaves (folder_of (H.text_of host.old) (H.file_count host.old) (H.reads host.old))) }
+    // with just its contents; and so they read at the end.
+    ensures any_moment { H.tells → LeavesAt H.folder H.images H.images_since H.call_number host.old host.new task_disk (FolderLeaves (H.folder host.old) result) }
 
-    // Whatever the status, the other disks are as before, and nothing is out.
-    ensures others { H.tells → (n : DiskNameValue) → n ≢ task_disk → SameAt H.reads H.images H.images_since H.call_number H.file_count host.old host.new n }
+    // It ends well, for a cause, or unheard.
+    ensures well { result ≡ 0 → EndsWell H.tells W.tells H.folder H.images W.received host.old host.new out.old out.new }
+    ensures stopped { result ≢ 0 → result ≢ 7 → StopsFor H.tells E.tells H.folder E.received (map string_bytes words.now) host.old result err.old err.new }
+    ensures unheard { result ≡ 7 →
+        (CutsReport H.tells W.tells H.folder H.images W.received W.fault_count host.old host.new out.old out.new
+        × Tried E.tells sink_line (E.received err.old) (E.received err.new) (E.fault_count err.old) (E.fault_count err.new))
+        ⊎ ((out.new ≡ out.old) × CutsLine H.tells E.tells H.folder E.received E.fault_count (map string_bytes words.now) host.old err.old err.new) }
+    ensures out_kept { result ≢ 0 → result ≢ 7 → out.new ≡ out.old }
+    ensures err_kept { result ≡ 0 → err.new ≡ err.old }
+
+    // A folder that can be run is run, where no count of faults rises and memory isn't refused.
+    ensures complete { H.tells → IsCommand (map string_bytes words.now) → Runnable (H.folder host.old)
+        → NothingFails H.fault_count W.fault_count E.fault_count host.old host.new out.old out.new err.old err.new → (result ≡ 0) ⊎ (result ≡ 8) }
+
+    // Words that are no command leave every disk as it was; else the folder that the words name is entered.
+    ensures no_command { (IsCommand (map string_bytes words.now) → ⊥) → (result ≡ 2) ⊎ ((result ≡ 7) ⊎ (result ≡ 8)) }
+    ensures command { result ≡ 2 → IsCommand (map string_bytes words.now) → ⊥ }
+    ensures untouched { (IsCommand (map string_bytes words.now) → ⊥) → host.new ≡ host.old }
+    ensures entered { HasEntered result → (word folder : List ℕ) → map string_bytes words.now ≡ word ∷ folder ∷ [] → H.entered host.new ≡ Some folder }
+
+    // What else it leaves.
+    ensures others { H.tells → (n : DiskNameValue) → n ≢ task_disk → SameAt H.folder H.images H.images_since H.call_number host.old host.new n }
     ensures back { NoneOut (H.disks_out host.new) (H.shelves_out host.new) }
+    ensures device { result ≡ 4 → Rose (H.fault_count host.old) (H.fault_count host.new) }
     ensures later { H.fault_count host.old ≤ H.fault_count host.new }
     ensures later_sinks { (W.fault_count out.old ≤ W.fault_count out.new) × (E.fault_count err.old ≤ E.fault_count err.new) }
 {
     match run(alloc, words, host) {
-        Ok(text) => put_report(text.as_slice(), out, err),
+        Ok(report) => put_report(alloc, &report, out, err),
         Err(stopped) => put_fault(alloc, &stopped, err),
     }
 }

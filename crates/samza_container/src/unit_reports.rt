@@ -1,14 +1,11 @@
 // What the report of a unit tells.
 ghost use Rattle.std.specs.Prelude.{◌≡◌, ◌<◌, ◌∷◌, [], length, IfOk};
-ghost use Rattle.samza_container.specs.declared.reports.TaskReport.{TaskReport as TaskReportValue};
-ghost use Rattle.samza_container.specs.ReportText.{report_text};
 ghost use Rattle.samza_container.specs.Reported.{input_row, store_row, output_row, sent_by, AreRows, TellsUnit};
 
-use crate::reports::{InputReport, OutputReport, StoreReport, TaskReport, report};
+use crate::reports::{InputReport, OutputReport, StoreReport, TaskReport};
 use disk_model::{Disk, Shelf};
 use samza_model::{Items, Job, NoMemory, Plain};
 use std::alloc::Global;
-use std::slice;
 use task_unit::OneUnit;
 
 fn input_reports<'j, J: Job, D: Disk, S: Shelf>(
@@ -62,7 +59,7 @@ fn output_reports<'j, J: Job, D: Disk, S: Shelf>(
 }
 
 /// What is told of a unit's task.
-fn task_report<'j, J: Job, D: Disk, S: Shelf>(
+pub(crate) fn task_report<'j, J: Job, D: Disk, S: Shelf>(
     alloc: Global,
     unit: &OneUnit<'j, J, D, S>,
 ) -> Result<TaskReport, NoMemory>
@@ -77,15 +74,4 @@ fn task_report<'j, J: Job, D: Disk, S: Shelf>(
         stores: Items::from_vec(store_reports(alloc, unit)?),
         outputs: Items::from_vec(output_reports(alloc, unit)?),
     })
-}
-
-/// The report of container 0 with a unit's one task.
-pub(crate) fn unit_report<'j, J: Job, D: Disk, S: Shelf>(
-    alloc: Global,
-    unit: &OneUnit<'j, J, D, S>,
-) -> Result<Vec<u8>, NoMemory>
-    ensures { IfOk result (λ text. (r : TaskReportValue) × TellsUnit unit.now r × (text.items ≡ report_text 0 (r ∷ []))) }
-{
-    let task = task_report(alloc, unit)?;
-    report(alloc, 0, slice::from_ref(&task))
 }

@@ -1,6 +1,6 @@
 // The words of a command.
 ghost use Rattle.std.specs.Prelude.{◌≡◌, ◌↔◌, ◌∷◌, [], IsTrue, IfOk, IfErr, map, codes, string_bytes};
-ghost use Rattle.samza_container.specs.Words.{IsFolder, IsRefusedAt};
+ghost use Rattle.samza_container.specs.Words.{IsFolder, IsReadTo};
 
 /// Whether a word may be a folder: it isn't empty, and doesn't begin with a minus sign.
 fn is_folder(word: &[u8]) -> bool
@@ -24,7 +24,7 @@ fn is_run(word: &[u8]) -> bool
 /// The words are those behind the program's name.
 pub(crate) fn read_words(words: &[String]) -> Result<&str, u64>
     ensures command { IfOk result (λ folder. (map string_bytes words.now ≡ codes "run" ∷ folder.now ∷ []) × IsFolder folder.now) }
-    ensures refused { IfErr result (λ place. IsRefusedAt (map string_bytes words.now) place) }
+    ensures refused { IfErr result (λ place. IsReadTo (map string_bytes words.now) place) }
 {
     if words.is_empty() || !is_run(words[0].as_bytes()) {
         return Err(1);

@@ -8,6 +8,7 @@ use Rattle.samza_model.specs.declared.messages.Record.{Record}
 use Rattle.samza_model.specs.declared.checkpoints.InputMark.{InputMark}
 use Rattle.samza_model.specs.declared.checkpoints.StoreMark.{StoreMark}
 use Rattle.samza_model.specs.declared.checkpoints.Checkpoint.{Checkpoint}
+use Rattle.samza_model.specs.Limits.{store_limit, output_limit}
 use Rattle.samza_model.specs.Names.{is_topic, is_system}
 
 -- a length in one byte, and the name
@@ -60,8 +61,8 @@ pub record FitsInput (i : InputMark) : Type 0 where
 -- what is asked of a checkpoint's lists
 pub record IsWellFormed (c : Checkpoint) : Type 0 where
   pub few_inputs : length c.inputs ≤ 64
-  pub few_stores : length c.stores ≤ 8
-  pub few_outputs : length c.outputs ≤ 8
+  pub few_stores : length c.stores ≤ store_limit
+  pub few_outputs : length c.outputs ≤ output_limit
   pub each_input : AllByRecursion FitsInput c.inputs
   pub each_store : AllByRecursion (λ s. is_system s.name ≡ true) c.stores
   pub each_output : AllByRecursion (λ o. is_topic o ≡ true) c.outputs
@@ -80,3 +81,7 @@ pub record Spells (c : Checkpoint) (r : Record) : Type 0 where
   pub formed : IsWellFormed c
   pub ranges : IsInRange c
   pub is : r ≡ checkpoint_record c
+
+-- What a record of a checkpoint file stands for. A commit writes it so, in the one format that there is.
+abbrev pub StandsFor : Record → Checkpoint → Type 0
+StandsFor r c = Spells c r

@@ -3,6 +3,7 @@ use Rattle.std.specs.Prelude.{ℕ, List, [], ◌∷◌, ◌++◌, Option, Some, 
 use Rattle.std.specs.Ordering.{nat_cmp, is_lt}
 use Rattle.std.specs.Cmp.Lexicographic.{slice_cmp}
 use Rattle.std.specs.List.{find}
+use Rattle.std.specs.Coded.{Coded, coded_list, coded_ℕ}
 use Rattle.std.specs.FinMap as map
 use Rattle.samza_model.specs.declared.messages.Record.{Record}
 use Rattle.samza_model.specs.declared.acts.Act.{Act}
@@ -16,6 +17,9 @@ Content = map.FinMap (slice_cmp nat_cmp) (List ℕ)
 
 abbrev pub nothing_stored : Content
 nothing_stored = map.empty
+
+abbrev pub content_code : Coded Content
+content_code = map.code (coded_list coded_ℕ) (coded_list coded_ℕ)
 
 -- the key set to the value, or taken away
 abbrev pub updated : Content → List ℕ → Option (List ℕ) → Content

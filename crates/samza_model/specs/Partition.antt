@@ -1,5 +1,5 @@
 -- A partition of a stream: its first offset and its messages, each at the offset behind the one before.
-use Rattle.std.specs.Prelude.{ℕ, ◌+◌, ◌-◌, List, [], ◌∷◌, length, Option, slice_get}
+use Rattle.std.specs.Prelude.{ℕ, ◌+◌, ◌-◌, List, [], ◌∷◌, length, Option, None, nat_le, slice_get, if◌then◌else◌}
 use Rattle.samza_model.specs.declared.messages.Record.{Record}
 use Rattle.samza_model.specs.declared.messages.Ssp.{Ssp}
 use Rattle.samza_model.specs.declared.messages.Envelope.{Envelope}
@@ -8,13 +8,17 @@ pub record Partition : Type 0 where
   pub first : ℕ
   pub records : List Record
 
+-- the partition that a topic file's records are: their offsets begin at 0
+abbrev pub partition_of : List Record → Partition
+partition_of records = record { first = 0; records = records }
+
 -- the offset behind the last message
 abbrev pub end_of : Partition → ℕ
 end_of p = p.first + length p.records
 
--- the message at an offset from the first on and below the end
+-- the message at an offset; there is none below the first, or from the end on
 abbrev pub message : Partition → ℕ → Option Record
-message p offset = slice_get p.records (offset - p.first)
+message p offset = if nat_le p.first offset then slice_get p.records (offset - p.first) else None
 
 -- messages with their places, of which the first stands at this offset
 abbrev pub envelopes : Ssp → ℕ → List Record → List Envelope

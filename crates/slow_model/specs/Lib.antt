@@ -1,4 +1,3 @@
-pub mod Codes
 pub use Rattle.samza_model.specs.Checkpoint
 pub use Rattle.samza_model.specs.Content
 pub use Rattle.samza_model.specs.Limits

@@ -18,8 +18,7 @@ pub struct PlainState {
 
 impl Model for PlainState {
     ghost use Rattle.std.specs.Coded.{codes};
-    ghost use Rattle.slow_model.specs.Codes.{content_code};
-    ghost use Rattle.samza_model.specs.Content.{State};
+    ghost use Rattle.samza_model.specs.Content.{State, content_code};
 
     ghost Value = { State };
 

@@ -7,6 +7,7 @@ use Rattle.samza_model.specs.declared.setups.Setup.{Setup}
 use Rattle.samza_model.specs.Content.{Content, foldrec}
 use Rattle.samza_model.specs.declared.messages.Record.{Record}
 use Rattle.samza_model.specs.Files.{Image, checkpoint_file, changelog_file, output_file}
+use Rattle.samza_model.specs.Limits.{frame_batch}
 use Rattle.samza_model.specs.Logs.{joined, HasFrames}
 use Rattle.samza_model.specs.Restored.{IsNamed, Restores, count_at, next_at, marked_place, setup_place}
 use Rattle.changelog.specs.Folds.{reverts_of}
@@ -14,14 +15,15 @@ use Rattle.kv_store.specs.Tracked.{Tracked}
 use Rattle.log_frame.specs.Cuts.{IsCut}
 use Rattle.restore_trim.specs.Standing.{IsRestored}
 use Rattle.topic_log.specs.declared.logs.Log.{Log}
-use Rattle.task_unit.specs.declared.writing.Logs.{Logs}
+use Rattle.unit_logs.specs.declared.writing.Logs.{Logs}
 use Rattle.task_unit.specs.Acting.{KeepsClean}
-use Rattle.task_unit.specs.Held.{Held, contents_of}
-use Rattle.task_unit.specs.Units.{OnDisk, LogsStay, AreWhole}
+use Rattle.unit_logs.specs.Held.{Held, contents_of}
+use Rattle.unit_logs.specs.Standing.{OnDisk}
+use Rattle.task_unit.specs.Units.{LogsStay, AreWhole}
 use Rattle.topic_log.proofs.Spelling.{frames_unique, joined-append, log_unique}
-use Rattle.restore_trim.proofs.Growing.{open_has as open_frames}
-use Rattle.task_unit.proofs.Committed.{open_has}
-use Rattle.task_unit.proofs.Made.{content_at}
+use Rattle.restore_trim.proofs.Tails.{has_frames}
+use Rattle.unit_logs.proofs.Committed.{open_has}
+use Rattle.unit_logs.proofs.Holding.{content_at}
 
 -- what was restored, told with equal parts
 pub restored_as : (s : Setup) (before reads : Image) (images : Image → Type 0) (mark mark' : Option Checkpoint) (marks : Log) (changelogs outputs : List Log) (logs : Logs) (stores stores' : List Content)
@@ -81,20 +83,21 @@ module _ (s : Setup) (before reads : Image) (images : Image → Type 0) (mark : 
       let log = get_or logs.changelogs.items i logs.marks in
       ap foldrec (log_unique (reads (changelog_file i)) records (joined (o.frames ++ o.reverts)) has (open_has reads images (changelog_file i) log (o.frames ++ o.reverts) o.is_open)) ∙ sym o.whole
 
-  pub logs_stay : LogsStay s mark before reads
-  logs_stay = record {
-    marks = same_frames (before checkpoint_file) (reads checkpoint_file) r.mark_is.frames r.mark_is.had (open_frames reads images checkpoint_file logs.marks r.mark_is.frames r.mark_is.is_open);
+  -- the logs of each image are those before, but for what was taken back
+  pub logs_stay : (c : Image) → images c → LogsStay s mark before c
+  logs_stay c now = record {
+    marks = same_frames (before checkpoint_file) (c checkpoint_file) r.mark_is.frames r.mark_is.had (has_frames reads images checkpoint_file logs.marks r.mark_is.frames r.mark_is.is_open c now);
     changelogs = λ i lt frames had.
         let o = r.stores_are.each i logs.marks lt in
         let same : o.frames ≡ frames = frames_unique (before (changelog_file i)) o.frames frames o.had had in
         let log = get_or logs.changelogs.items i logs.marks in (
           o.reverts,
-          subst (λ (fs : List (List Record)). IsCut 500 (reverts_of (count_at mark i) (joined fs)) o.reverts) same o.cut,
-          subst (λ (fs : List (List Record)). HasFrames (reads (changelog_file i)) (fs ++ o.reverts)) same (open_frames reads images (changelog_file i) log (o.frames ++ o.reverts) o.is_open),
+          subst (λ (fs : List (List Record)). IsCut frame_batch (reverts_of (count_at mark i) (joined fs)) o.reverts) same o.cut,
+          subst (λ (fs : List (List Record)). HasFrames (c (changelog_file i)) (fs ++ o.reverts)) same (has_frames reads images (changelog_file i) log (o.frames ++ o.reverts) o.is_open c now),
         );
     outputs = λ j lt.
         let o = r.outputs_are.each j logs.marks lt in
-        same_frames (before (output_file j)) (reads (output_file j)) o.frames o.had (open_frames reads images (output_file j) (get_or logs.outputs.items j logs.marks) o.frames o.is_open);
+        same_frames (before (output_file j)) (c (output_file j)) o.frames o.had (has_frames reads images (output_file j) (get_or logs.outputs.items j logs.marks) o.frames o.is_open c now);
   }
 
 -- the kept offset is the checkpoint's, which has the setup's one input

@@ -5,9 +5,11 @@ use Rattle.samza_model.specs.declared.setups.Setup.{Setup}
 use Rattle.samza_model.specs.declared.checkpoints.Checkpoint.{Checkpoint}
 use Rattle.samza_model.specs.Files.{Image, checkpoint_file, changelog_file, output_file}
 use Rattle.samza_model.specs.Logs.{joined, HasFrames, HasLog}
-use Rattle.samza_model.specs.Partition.{Partition}
+use Rattle.samza_model.specs.Partition.{partition_of}
+use Rattle.samza_model.proofs.Partitions.{start_in}
 use Rattle.samza_model.specs.Restored.{count_at, next_at, start_of, fallback_start, EndsWith, HasMark, IsMarked, IsNamed}
 use Rattle.topic_log.proofs.Spelling.{frames_unique, log_unique}
+use Rattle.restore_trim.proofs.Outcomes.{outputs_of}
 use Rattle.restore_trim.proofs.Exact.{ends_one, none_ends, marked_one}
 use Rattle.checkpoint_log.specs.Ends.{IsBadEnd}
 use Rattle.restore_trim.specs.declared.faults.OpenFault.{OpenFault}
@@ -84,9 +86,9 @@ module _ (s : Setup) (image : Image) (m : Option Checkpoint) (e : OpenFault) (de
 
   -- files that hold have no cause not to restore
   pub not_refused : FilesHold s image m → WhyRefused s image e → ⊥
-  not_refused hold (inl why) = has_mark s image m hold.marked e device memory why
-  not_refused hold (inr (inl why)) = has_stores hold.marked hold.stores why
-  not_refused hold (inr (inr why)) = has_outputs hold.outputs why
+  not_refused hold (inl why) = has_mark s image m hold.restores.marked e device memory why
+  not_refused hold (inr (inl why)) = has_stores hold.restores.marked hold.stores why
+  not_refused hold (inr (inr why)) = has_outputs (outputs_of s image m hold.contents hold.restores) why
 
 pub has_input : (told : Type 0) (bytes : List ℕ) (partition : ℕ) (records : List Record) (e : OpenFault) → told → e ≢ Device → e ≢ NoMemory → HasLog bytes records → WhyNoInput told bytes partition e → ⊥
 has_input told bytes partition records Device tells device memory has why = device refl
@@ -98,25 +100,17 @@ has_input told bytes partition records NoMemory tells device memory has why = me
 
 not_past : (tells told : Type 0) (s : Setup) (image : Image) (bytes : List ℕ) (e : OpenFault) → tells → told → Opens s image bytes → IsPastEnd tells told s image bytes e → ⊥
 not_past tells told s image bytes e is_told input_told opens past =
-    let p : Partition = record { first = 0; records = opens.messages } in
-    let marks : past.mark ≡ opens.mark = marked_one s image past.mark opens.mark (past.hold is_told).marked opens.restored.marked in
+    let p = partition_of opens.messages in
+    let marks : past.mark ≡ opens.mark = marked_one s image past.mark opens.mark (past.hold is_told).restores.marked opens.hold.restores.marked in
     let records : past.records ≡ opens.messages = log_unique bytes past.records opens.messages (past.read input_told) opens.has_messages in
     let kept : next_at opens.mark 0 ≡ Some past.next = ap (λ (m : Option Checkpoint). next_at m 0) (sym marks) ∙ past.kept in
     let begins : start_of (next_at opens.mark 0) (input_of s) p ≡ past.next =
-    ap (λ o. start_of o (input_of s) p) kept ∙ ap (λ b. if b then fallback_start (input_of s).fallback p else past.next) past.honoured in
+    ap (λ o. start_of o (input_of s) p) kept ∙ start_in past.next (input_of s) opens.messages ∙ ap (λ b. if b then fallback_start (input_of s).fallback p else past.next) past.honoured in
     absurd (omega (arith, opens.within, begins, past.past, ap length records))
-
--- where a task can be opened, its own files hold
-opens_hold : (s : Setup) (image : Image) (bytes : List ℕ) (opens : Opens s image bytes) → FilesHold s image opens.mark
-opens_hold s image bytes opens = record {
-  marked = opens.restored.marked;
-  stores = opens.opens;
-  outputs = λ j lt. let log = (opens.restored.each_output j lt).1 in (log.frames, log.has);
-}
 
 -- a task that can be opened has no cause not to be
 pub not_kept_shut : (tells told : Type 0) (s : Setup) (image : Image) (bytes : List ℕ) (e : OpenFault) → tells → told → e ≢ Device → e ≢ NoMemory → Opens s image bytes
     → WhyNotOpened tells told s image bytes e → ⊥
-not_kept_shut tells told s image bytes e is_told input_told device memory opens (inl why) = not_refused s image opens.mark e device memory (opens_hold s image bytes opens) (why is_told)
+not_kept_shut tells told s image bytes e is_told input_told device memory opens (inl why) = not_refused s image opens.mark e device memory opens.hold (why is_told)
 not_kept_shut tells told s image bytes e is_told input_told device memory opens (inr (inl why)) = has_input told bytes (input_of s).ssp.partition opens.messages e input_told device memory opens.has_messages why.why
 not_kept_shut tells told s image bytes e is_told input_told device memory opens (inr (inr why)) = not_past tells told s image bytes e is_told input_told opens why

@@ -1,7 +1,7 @@
 -- What an act does to what is held is what it does to the state.
 use Rattle.std.proofs.Common.{ℕ, ◌≡◌, ◌≢◌, ◌<◌, List, length, get_or, Option, Some, None, Ok, Err, Result, OnOk, OnErr, IfOk, sym, ◌∙◌, ap, subst, refl, ⊎_elim}
 use Rattle.std.proofs.Math.ListN.{set}
-use Rattle.std.proofs.lemmas.List.{get_or-map, map-set, get_or-set_same, get_or-set_other}
+use Rattle.std.proofs.lemmas.List.{map-set, get_or-set_same, get_or-set_other}
 use Rattle.std.proofs.lemmas.Bool.{cases_eq}
 use Rattle.std.specs.FinMap as fin
 use Rattle.samza_model.specs.declared.messages.Record.{Record}
@@ -11,15 +11,13 @@ use Rattle.samza_model.specs.declared.acts.Answer.TheVariants.{Noted}
 use Rattle.samza_model.specs.Content.{Content, State, changed, answer_of, found, found_pair, next_pair, updated, store_at, nothing_stored}
 use Rattle.kv_store.specs.Tracked.{Tracked, with_change, AgreesOnClean, no_keys}
 use Rattle.kv_store.proofs.Tracking.{AgreesOnClean-more}
-use Rattle.task_unit.specs.Held.{Held, tracked_at, contents_of, state_of}
+use Rattle.unit_logs.specs.Held.{Held, tracked_at, contents_of, state_of}
+use Rattle.unit_logs.proofs.Holding.{content_at}
 use Rattle.task_unit.specs.Acting.{with_stored, with_sent, KeepsClean}
 
 pub always : {T E P : Type 0} (r : Result T E) → P → OnOk r P
 always (Ok x) p = p
 always (Err e) p = tt
-
-pub content_at : (stores : List Tracked) (i : ℕ) → i < length stores → store_at (contents_of stores) i ≡ (tracked_at stores i).content
-content_at stores i lt = get_or-map (λ (t : Tracked). t.content) stores i (record { content = nothing_stored; dirty = no_keys }) nothing_stored lt
 
 pub got : (h : Held) (i : ℕ) (key : List ℕ) → i < length h.stores → found (fin.get (tracked_at h.stores i).content key) ≡ answer_of (state_of h) (Get i key)
 unfolding answer_of

@@ -7,6 +7,7 @@ use Rattle.samza_model.specs.declared.checkpoints.Checkpoint.{Checkpoint}
 use Rattle.samza_model.specs.declared.setups.Setup.{Setup}
 use Rattle.samza_model.specs.Files.{Image, checkpoint_file, changelog_file, output_file}
 use Rattle.samza_model.specs.Logs.{joined, spelled}
+use Rattle.samza_model.specs.Partition.{partition_of, end_of}
 use Rattle.samza_model.specs.Restored.{count_at, next_at, EndsWith}
 use Rattle.topic_log.specs.Damage.{IsDamagedAt}
 use Rattle.topic_log.proofs.Damaging.{damage_unique, damaged_once}
@@ -198,11 +199,11 @@ module _ (tells told : Type 0) (shown : tells) (read : told) (s : Setup) (image 
 
   one_past : (e e' : OpenFault) → IsPastEnd tells told s image bytes e → IsPastEnd tells told s image bytes e' → e ≡ e'
   one_past e e' p q =
-      let marks : p.mark ≡ q.mark = marked_one s image p.mark q.mark (p.hold shown).marked (q.hold shown).marked in
+      let marks : p.mark ≡ q.mark = marked_one s image p.mark q.mark (p.hold shown).restores.marked (q.hold shown).restores.marked in
       let kept : Some p.next ≡ Some q.next = sym p.kept ∙ ap (λ (m : Option Checkpoint). next_at m 0) marks ∙ q.kept in
       let next : p.next ≡ q.next = cc kept in
-      let ends : length p.records ≡ length q.records = ap (λ (rs : List Record). length rs) (log_unique bytes p.records q.records (p.read read) (q.read read)) in
-      p.fault ∙ ap (λ n. Ahead (Some 0) None n (length p.records)) next ∙ ap (λ n. Ahead (Some 0) None q.next n) ends ∙ sym q.fault
+      let ends : end_of (partition_of p.records) ≡ end_of (partition_of q.records) = ap (λ (rs : List Record). end_of (partition_of rs)) (log_unique bytes p.records q.records (p.read read) (q.read read)) in
+      p.fault ∙ ap (λ n. Ahead (Some 0) None n (end_of (partition_of p.records))) next ∙ ap (λ n. Ahead (Some 0) None q.next n) ends ∙ sym q.fault
 
   -- the input comes before the offset kept of it
   input_first : (e e' : OpenFault) → IsOther e → InputRefused tells told s image bytes e → IsPastEnd tells told s image bytes e' → ⊥

@@ -3,13 +3,13 @@ use Rattle.std.proofs.Common.{ℕ, ◌≡◌, ◌<◌, ◌-◌, List, [], ◌∷
 use Rattle.std.proofs.Math.ListN.{set}
 use Rattle.std.proofs.lemmas.List.{reverse-append, get_or-set_same, set-set, set-get_or, length_push, take_at, length-set}
 use Rattle.samza_model.specs.declared.messages.Record.{Record}
-use Rattle.kv_store.specs.Tracked.{Tracked, Reversal, IsDirty, undone}
+use Rattle.kv_store.specs.Tracked.{Tracked, Reversal, IsDirty, undone, no_keys}
 use Rattle.task_unit.specs.declared.acting.Undone.{Undone}
 use Rattle.task_unit.specs.declared.acting.Undone.TheVariants.{Changed, Sent}
 use Rattle.task_unit.specs.Acting.{with_sent}
-use Rattle.task_unit.specs.Held.{Held, tracked_at, taken_back, MayTake, LeadsTo}
+use Rattle.task_unit.specs.Held.{taken_back, MayTake, LeadsTo}
+use Rattle.unit_logs.specs.Held.{Held, tracked_at}
 use Rattle.samza_model.specs.Content.{sent_at, nothing_stored}
-use Rattle.kv_store.specs.Tracked.{no_keys}
 
 pub reverse_push : {A : Type 0} (xs : List A) (x : A) → reverse (xs ++ x ∷ []) ≡ x ∷ reverse xs
 reverse_push xs x = reverse-append xs (x ∷ [])

@@ -16,12 +16,13 @@ use Rattle.samza_model.specs.declared.setups.Setup.{Setup}
 use Rattle.samza_model.specs.Content.{Content, State, changed, answer_of, nothing_stored, store_at}
 use Rattle.samza_model.specs.Runs.{End, end_at}
 use Rattle.samza_model.specs.Meaning.{Meaning}
-use Rattle.kv_store.specs.Tracked.{Keys, Tracked, no_keys, with_key, with_change, marked, set_of, record_now, unlogged_records}
+use Rattle.kv_store.specs.Tracked.{Keys, Tracked, no_keys, with_key, with_change, marked, set_of, record_now, records_of, unlogged_records}
 use Rattle.kv_store.proofs.Updates.{bytes_tell_apart}
 use Rattle.task_unit.specs.Acting.{with_stored, dirty_at, IsTouched, AreTouched}
-use Rattle.task_unit.specs.Held.{Held, tracked_at, contents_of, unlogged_of, unlogged_at}
-use Rattle.task_unit.specs.Touched.{acts_on, with_act, touched, keys_in, records_of}
-use Rattle.task_unit.proofs.Made.{IsAside, content_at}
+use Rattle.unit_logs.specs.Held.{Held, tracked_at, contents_of, unlogged_of, unlogged_at}
+use Rattle.task_unit.specs.Touched.{acts_on, with_act, touched, keys_in}
+use Rattle.task_unit.proofs.Made.{IsAside}
+use Rattle.unit_logs.proofs.Holding.{content_at}
 
 -- the acts from one on, by how the turn ends there
 acts_behind : Meaning → Setup → Envelope → ℕ → State → List Answer → Act → Option End → List Act
@@ -119,7 +120,7 @@ set_of-keys d =
     same_map nat_list_cmp_total bytes_tell_apart (set_of (fin.keys d)) d
     (λ q. get-from_entries nat_list_cmp_total (marked (fin.keys d)) q ∙ ap (λ (es : List (List ℕ × Unit {0})). fin.find (slice_cmp nat_cmp) q es) (marked_again (fin.entries d)) ∙ sym (get-entries d q))
 
-pub keys_in-records : (c : Content) (keys : Keys) → keys_in (records_of c keys) ≡ keys
+pub keys_in-records : (c : Content) (keys : Keys) → keys_in (records_of c (fin.keys keys)) ≡ keys
 keys_in-records c keys = ap set_of (same (fin.keys keys)) ∙ set_of-keys keys
   where
     same : (ks : List (List ℕ)) → map (λ (r : Record). r.key) (map (record_now c) ks) ≡ ks
@@ -127,15 +128,15 @@ keys_in-records c keys = ap set_of (same (fin.keys keys)) ∙ set_of-keys keys
     same (k ∷ ks) = ap (λ (l : List (List ℕ)). k ∷ l) (same ks)
 
 pub unlogged_behind : (old new : Held) (acts : List Act) → AreTouched old new acts → length new.stores ≡ length old.stores → (i : ℕ) → i < length old.stores
-    → unlogged_at (unlogged_of new.stores) i ≡ records_of (store_at (contents_of new.stores) i) (touched i (keys_in (unlogged_at (unlogged_of old.stores) i)) acts)
+    → unlogged_at (unlogged_of new.stores) i ≡ records_of (store_at (contents_of new.stores) i) (fin.keys (touched i (keys_in (unlogged_at (unlogged_of old.stores) i)) acts))
 unlogged_behind old new acts are same i lt =
     let d : Tracked = record { content = nothing_stored; dirty = no_keys } in
     let here : i < length new.stores = subst (λ n. i < n) (sym same) lt in
     let t = tracked_at new.stores i in
     let was : keys_in (unlogged_at (unlogged_of old.stores) i) ≡ dirty_at old i = ap keys_in (get_or-map unlogged_records old.stores i d [] lt) ∙ keys_in-records (tracked_at old.stores i).content (tracked_at old.stores i).dirty in
     get_or-map unlogged_records new.stores i d [] here
-    ∙ ap (λ (keys : Keys). records_of t.content keys) (are i ∙ ap (λ (keys : Keys). touched i keys acts) (sym was))
-    ∙ ap (λ (c : Content). records_of c (touched i (keys_in (unlogged_at (unlogged_of old.stores) i)) acts)) (sym (content_at new.stores i here))
+    ∙ ap (λ (keys : Keys). records_of t.content (fin.keys keys)) (are i ∙ ap (λ (keys : Keys). touched i keys acts) (sym was))
+    ∙ ap (λ (c : Content). records_of c (fin.keys (touched i (keys_in (unlogged_at (unlogged_of old.stores) i)) acts))) (sym (content_at new.stores i here))
 
 -- acts after others
 pub touched-append : (i : ℕ) (keys : Keys) (first behind : List Act) → touched i keys (first ++ behind) ≡ touched i (touched i keys first) behind

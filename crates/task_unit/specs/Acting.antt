@@ -1,19 +1,17 @@
 -- What a task's holdings are to contracts.
-use Rattle.std.specs.Prelude.{ℕ, ◌≡◌, List, ◌∷◌, [], ◌++◌, length, Option, reverse, slice_set}
+use Rattle.std.specs.Prelude.{ℕ, ◌≡◌, List, ◌∷◌, [], ◌++◌, length, Option, reverse, slice_set, Some, None}
 use Rattle.samza_model.specs.declared.messages.Record.{Record}
-use Rattle.samza_model.specs.Content.{sent_at}
-use Rattle.samza_model.specs.Content.{Content}
-use Rattle.samza_model.specs.declared.setups.Setup.{Setup}
+use Rattle.samza_model.specs.Content.{sent_at, Content}
 use Rattle.samza_model.specs.Runs.{End}
 use Rattle.kv_store.specs.Tracked.{Keys, with_change, AgreesOnClean}
 use Rattle.samza_model.specs.declared.acts.Act.{Act}
 use Rattle.task_unit.specs.Touched.{with_act, touched}
-use Rattle.std.specs.Prelude.{Some, None}
 use Rattle.task_unit.specs.declared.acting.Course.{Course}
 use Rattle.task_unit.specs.declared.acting.Course.TheVariants.{GoesOn, Done, Failed}
 use Rattle.task_unit.specs.declared.acting.Holdings.{Holdings}
 use Rattle.task_unit.specs.declared.acting.Undone.{Undone}
-use Rattle.task_unit.specs.Held.{Held, tracked_at, LeadsTo}
+use Rattle.task_unit.specs.Held.{LeadsTo}
+use Rattle.unit_logs.specs.Held.{Held, tracked_at}
 
 abbrev pub held : Holdings → Held
 held h = record { stores = h.stores.items; unsent = h.outputs.unsent; cleared = h.outputs.cleared }
@@ -37,11 +35,6 @@ with_sent h output body = record { stores = h.stores; unsent = slice_set h.unsen
 -- the dirty keys of the i-th store
 abbrev pub dirty_at : Held → ℕ → Keys
 dirty_at h i = (tracked_at h.stores i).dirty
-
--- as many stores and outputs as the setup has
-pub record IsSized (s : Setup) (h : Held) : Type 0 where
-  pub stores : length h.stores ≡ length s.stores
-  pub outputs : length h.unsent ≡ length s.outputs
 
 -- a content with which a store agreed at its clean keys still does
 abbrev pub KeepsClean : Held → Held → Type 0

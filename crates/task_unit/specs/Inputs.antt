@@ -1,15 +1,17 @@
 -- Why a task's input isn't read.
 use Rattle.std.specs.Prelude.{ℕ, ◌≡◌, ◌<◌, List, Some, None}
 use Rattle.restore_trim.specs.declared.faults.OpenFault.{OpenFault}
-use Rattle.restore_trim.specs.declared.faults.OpenFault.TheVariants.{Device, Damaged, Shape, Ahead, NoMemory}
+use Rattle.restore_trim.specs.declared.faults.OpenFault.TheVariants.{Device, Damaged, Ahead, NoMemory}
 use Rattle.restore_trim.specs.Refused.{IsNoLogAt}
 
--- what a refusal tells of the input, on every outside: its partition's file, or that it ends before the kept offset
+-- what a refusal tells of the input, on every outside: its partition's file, or that it ends before the kept offset;
+-- beside these the device or want of memory alone
 abbrev pub TellsInput : ℕ → OpenFault → Type 0
+TellsInput partition Device = Unit {0}
 TellsInput partition (Damaged input file at) = (input ≡ Some 0) × (file ≡ partition)
-TellsInput partition Shape = ⊥
 TellsInput partition (Ahead input store wanted held) = (input ≡ Some 0) × (store ≡ None) × (held < wanted)
-TellsInput partition e = Unit {0}
+TellsInput partition NoMemory = Unit {0}
+TellsInput partition e = ⊥
 
 -- the input isn't read: the device, want of memory, or its partition's file is no log
 abbrev pub WhyNoInput : Type 0 → List ℕ → ℕ → OpenFault → Type 0

@@ -1,12 +1,6 @@
 pub mod Acting
-pub mod Appending
-pub mod Crashes
-pub mod Growth
 pub mod Held
 pub mod Inputs
 pub mod Opens
-pub mod Planned
-pub mod Room
 pub mod Touched
 pub mod Units
-pub mod Written

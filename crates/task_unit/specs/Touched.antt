@@ -1,16 +1,15 @@
 -- The acts that a job makes on a message, and the keys of the stores that they set or take away.
 use Rattle.std.specs.Prelude.{ℕ, zero, suc, List, [], ◌∷◌, ◌++◌, map, Some, None, ◌==◌, if◌then◌else◌}
-use Rattle.std.specs.FinMap as fin
 use Rattle.samza_model.specs.declared.messages.Record.{Record}
 use Rattle.samza_model.specs.declared.messages.Envelope.{Envelope}
 use Rattle.samza_model.specs.declared.acts.Act.{Act}
 use Rattle.samza_model.specs.declared.acts.Act.TheVariants.{Put, Delete}
 use Rattle.samza_model.specs.declared.acts.Answer.{Answer}
 use Rattle.samza_model.specs.declared.setups.Setup.{Setup}
-use Rattle.samza_model.specs.Content.{Content, State, changed, answer_of}
+use Rattle.samza_model.specs.Content.{State, changed, answer_of}
 use Rattle.samza_model.specs.Meaning.{Meaning}
 use Rattle.samza_model.specs.Runs.{end_at}
-use Rattle.kv_store.specs.Tracked.{Keys, with_key, set_of, record_now}
+use Rattle.kv_store.specs.Tracked.{Keys, with_key, set_of}
 
 -- the acts that the job makes from here on, where so many more may be answered; the one that ends the turn is none of them
 unfoldable pub acts_on : Meaning → Setup → Envelope → ℕ → State → List Answer → List Act
@@ -39,7 +38,3 @@ touched i keys (act ∷ acts) = touched i (with_act i keys act) acts
 -- the keys of records
 abbrev pub keys_in : List Record → Keys
 keys_in records = set_of (map (λ (r : Record). r.key) records)
-
--- one record for each of the keys, in the keys' order, with the value that the content has
-abbrev pub records_of : Content → Keys → List Record
-records_of content keys = map (record_now content) (fin.keys keys)

@@ -1,8 +1,6 @@
 -- A task's unit: what it holds, what stands on its disk, and what its calls do.
-use Rattle.std.specs.Prelude.{◌⊎◌, ◌↔◌, ℕ, ◌≡◌, ◌<◌, ◌≤◌, ◌+◌, ◌-◌, Bool, false, List, [], ◌++◌, length, Option, Some, None, slice_get, slice_index_or}
-use Rattle.std.specs.List.{AllByRecursion}
+use Rattle.std.specs.Prelude.{◌⊎◌, ◌↔◌, ℕ, ◌≡◌, ◌<◌, ◌≤◌, ◌+◌, ◌-◌, Bool, false, List, [], ◌++◌, length, Option, Some, None, slice_index_or}
 use Rattle.std.specs.FinMap as fin
-use Rattle.std.specs.Coded.{Coded, coded_list, coded_ℕ}
 use Rattle.samza_model.specs.declared.messages.Record.{Record}
 use Rattle.samza_model.specs.declared.messages.Envelope.{Envelope}
 use Rattle.samza_model.specs.declared.checkpoints.Checkpoint.{Checkpoint}
@@ -11,61 +9,32 @@ use Rattle.samza_model.specs.declared.setups.InputSetup.{InputSetup}
 use Rattle.samza_model.specs.declared.setups.OffsetDefault.TheVariants.{Oldest}
 use Rattle.samza_model.specs.declared.turns.Failure.{Failure}
 use Rattle.samza_model.specs.declared.turns.Turn.TheVariants.{Call}
-use Rattle.samza_model.specs.Checkpoint.{IsWellFormed}
 use Rattle.samza_model.specs.Content.{Content, State, foldrec, sent_at, store_at}
 use Rattle.samza_model.specs.Files.{Image, checkpoint_file, changelog_file, output_file}
+use Rattle.samza_model.specs.Limits.{frame_batch}
 use Rattle.samza_model.specs.Logs.{joined, HasFrames, HasLog}
 use Rattle.samza_model.specs.Meaning.{Meaning}
-use Rattle.samza_model.specs.Restored.{HasMark, IsNamed, Restores, id_of, next_at, count_at}
+use Rattle.samza_model.specs.Partition.{partition_of, message, end_of}
+use Rattle.samza_model.specs.Restored.{id_of, next_at, count_at, store_file}
 use Rattle.samza_model.specs.Runs.{runs}
-use Rattle.kv_store.specs.Tracked.{Tracked, AgreesOnClean}
-use Rattle.topic_log.specs.declared.logs.Log.{Log}
+use Rattle.output_log.specs.Outputs.{cleared_at}
+use Rattle.topic_log.specs.Opened.{count_of}
 use Rattle.restore_trim.specs.declared.faults.OpenFault.{OpenFault}
 use Rattle.restore_trim.specs.declared.faults.OpenFault.TheVariants.{Ahead}
-use Rattle.restore_trim.specs.Refused.{FilesHold, HasChanges, TellsFiles, WhyRefused}
-use Rattle.restore_trim.specs.Standing.{IsOpenAt}
+use Rattle.restore_trim.specs.Refused.{FilesHold, TellsFiles, WhyRefused}
 use Rattle.changelog.specs.Folds.{reverts_of}
+use Rattle.kv_store.specs.Tracked.{records_of}
 use Rattle.log_frame.specs.Cuts.{IsCut}
 use Rattle.task_unit.specs.declared.acting.Holdings.{Holdings}
-use Rattle.task_unit.specs.declared.writing.Logs.{Logs}
-use Rattle.task_unit.specs.Acting.{held, undos_of, IsSized}
-use Rattle.task_unit.specs.Appending.{AreOpen}
-use Rattle.task_unit.specs.Held.{Held, tracked_at, unlogged_at}
+use Rattle.unit_logs.specs.declared.writing.Logs.{Logs}
+use Rattle.task_unit.specs.Acting.{held, undos_of}
 use Rattle.task_unit.specs.Inputs.{TellsInput, WhyNoInput}
-use Rattle.task_unit.specs.Touched.{acts_of, touched, keys_in, records_of}
-use Rattle.task_unit.specs.Written.{AreSound}
-
--- a setup of one input, for which a checkpoint with its names has a spelling
-pub record IsSetUp (s : Setup) : Type 0 where
-  pub one_input : length s.inputs ≡ 1
-  pub spelled : (k : Checkpoint) → IsNamed s k → IsWellFormed k
-  pub few_stores : length s.stores ≤ 8
-  pub few_outputs : length s.outputs ≤ 8
-  pub batches : AllByRecursion (λ t. (1 ≤ t.batch) × (t.batch ≤ 4096)) s.stores
-
--- a store's changelog is open, has as many records as the checkpoint counts or more, and all of them make a content that the store
--- has but for its dirty keys
-pub record StoreStands (reads : Image) (images : Image → Type 0) (file count : ℕ) (log : Log) (t : Tracked) : Type 0 where
-  pub frames : List (List Record)
-  pub is_open : IsOpenAt reads images file log frames
-  pub enough : count ≤ length (joined frames)
-  pub agrees : AgreesOnClean t (foldrec (joined frames))
-
--- the checkpoint file's log is open and ends with this checkpoint
-pub record MarkStands (s : Setup) (reads : Image) (images : Image → Type 0) (log : Log) (mark : Option Checkpoint) : Type 0 where
-  pub frames : List (List Record)
-  pub is_open : IsOpenAt reads images checkpoint_file log frames
-  pub mark_is : HasMark s frames mark
-
--- the task's logs are open at this checkpoint, and what is held is what they make but for what isn't committed
-pub record OnDisk (reads : Image) (images : Image → Type 0) (s : Setup) (logs : Logs) (mark : Option Checkpoint) (h : Held) : Type 0 where
-  pub marks : MarkStands s reads images logs.marks mark
-  pub stores : (i : ℕ) (d : Log) → i < length s.stores → StoreStands reads images (changelog_file i) (count_at mark i) (slice_index_or logs.changelogs.items i d) (tracked_at h.stores i)
-  pub outputs : AreOpen reads images (output_file 0) logs.outputs.items
-
--- a count of the records that each output's log grew by
-abbrev pub appended_at : List ℕ → ℕ → ℕ
-appended_at appended j = slice_index_or appended j 0
+use Rattle.task_unit.specs.Touched.{acts_of, touched, keys_in}
+use Rattle.unit_logs.specs.Commits.{IsCommitted, LeavesMade, CommitLeaves}
+use Rattle.unit_logs.specs.Growth.{PassesLimit}
+use Rattle.unit_logs.specs.Held.{IsSized, unlogged_at}
+use Rattle.unit_logs.specs.Standing.{IsSetUp, OnDisk}
+use Rattle.unit_logs.specs.Written.{AreSound}
 
 -- what a unit keeps
 pub record IsUnit {D : Type 0} (tells : Type 0) (reads : D → Image) (images : D → Image → Type 0) (s : Setup) (disk : D) (logs : Logs) (mark : Option Checkpoint) (h : Holdings) (messages : List Record) (begun next : ℕ) (broken : Bool) : Type 0 where
@@ -77,61 +46,29 @@ pub record IsUnit {D : Type 0} (tells : Type 0) (reads : D → Image) (images : 
   pub begins : begun ≤ next
   pub within : next ≤ length messages
   pub sound : broken ≡ false → AreSound logs
+  -- on every outside the checkpoint file has as many records as the last checkpoint's number says
+  pub counted : broken ≡ false → count_of logs.marks ≡ id_of mark
   pub stands : broken ≡ false → tells → OnDisk (reads disk) (images disk) s logs mark (held h)
-
--- each output's log has what it had, followed by what was sent
-abbrev pub SendsFollow : Image → Image → Setup → List (List Record) → Type 0
-SendsFollow before after s unsent = (j : ℕ) (had : List Record) → j < length s.outputs → HasLog (before (output_file j)) had → HasLog (after (output_file j)) (had ++ sent_at unsent j)
 
 -- the file has the frames that it had
 abbrev pub SameFrames : Image → Image → ℕ → Type 0
 SameFrames before after file = (frames : List (List Record)) → HasFrames (before file) frames ↔ HasFrames (after file) frames
 
--- a changelog has the frames that it had and, behind them, what takes the records behind so many back, in frames of at most 500
+-- a changelog has the frames that it had and, behind them, what takes the records behind so many back, in frames of at most `frame_batch`
 abbrev pub IsTrimmed : ℕ → List ℕ → List ℕ → Type 0
 IsTrimmed count before after = (frames : List (List Record)) → HasFrames before frames
-    → (reverts : List (List Record)) × IsCut 500 (reverts_of count (joined frames)) reverts × HasFrames after (frames ++ reverts)
+    → (reverts : List (List Record)) × IsCut frame_batch (reverts_of count (joined frames)) reverts × HasFrames after (frames ++ reverts)
 
 -- the checkpoint file and each output's log have the frames that they had, and each changelog has its records behind those that
 -- the checkpoint counts taken back
 pub record LogsStay (s : Setup) (mark : Option Checkpoint) (before after : Image) : Type 0 where
   pub marks : SameFrames before after checkpoint_file
-  pub changelogs : (i : ℕ) → i < length s.stores → IsTrimmed (count_at mark i) (before (changelog_file i)) (after (changelog_file i))
+  pub changelogs : (i : ℕ) → i < length s.stores → IsTrimmed (count_at mark i) (before (store_file mark i)) (after (store_file mark i))
   pub outputs : (j : ℕ) → j < length s.outputs → SameFrames before after (output_file j)
 
 -- all records of each changelog make its store's content
 abbrev pub AreWhole : Setup → Image → List Content → Type 0
 AreWhole s image stores = (i : ℕ) (records : List Record) → i < length s.stores → HasLog (image (changelog_file i)) records → foldrec records ≡ store_at stores i
-
--- each of the first so many changelogs has as many records as the checkpoint counts
-abbrev pub CountsHold : Image → Option Checkpoint → ℕ → Type 0
-CountsHold image mark n = (i : ℕ) → i < n → HasChanges image i (count_at mark i)
-
--- the image has the next checkpoint: its number is one more, it covers all below the next offset, it counts all records of each
--- changelog, and it restores to these contents
-pub record IsCommitted (s : Setup) (before after : Image) (mark : Option Checkpoint) (next : ℕ) (state : State) (made : Checkpoint) : Type 0 where
-  pub id_is : made.id ≡ id_of mark + 1
-  pub next_is : next_at (Some made) 0 ≡ Some next
-  pub counts : CountsHold after (Some made) (length s.stores)
-  pub restores : Restores s after (Some made) state.stores
-  pub sends : SendsFollow before after s state.sent
-
--- each output's log has what it had, or that followed by what was sent
-abbrev pub SendsMayFollow : Image → Image → Setup → List (List Record) → Type 0
-SendsMayFollow before after s unsent = (j : ℕ) (had : List Record) → j < length s.outputs → HasLog (before (output_file j)) had
-    → HasLog (after (output_file j)) had ⊎ HasLog (after (output_file j)) (had ++ sent_at unsent j)
-
--- the image has the checkpoint before, and restores to the contents before
-pub record IsUncommitted (s : Setup) (before after : Image) (mark : Option Checkpoint) (contents : List Content) (unsent : List (List Record)) : Type 0 where
-  pub restores : Restores s after mark contents
-  pub sends : SendsMayFollow before after s unsent
-
--- what a crash in a commit leaves: the checkpoint before and its contents, or the next checkpoint and the unit's stores
-abbrev pub CommitLeaves : Setup → Image → Image → Option Checkpoint → List Content → ℕ → State → Type 0
-CommitLeaves s before after mark contents next state = IsUncommitted s before after mark contents state.sent ⊎ ((made : Checkpoint) × IsCommitted s before after mark next state made)
-
-abbrev pub content_code : Coded Content
-content_code = fin.code (coded_list coded_ℕ) (coded_list coded_ℕ)
 
 -- what a unit is to contracts: its job as plain data, what it was given, and what it holds
 pub record UnitValue (P D S : Type 0) : Type 0 where
@@ -149,16 +86,32 @@ pub record UnitValue (P D S : Type 0) : Type 0 where
   -- what a commit will append of each store: one record for each key that was set or taken away since the last commit, in the
   -- keys' order, with its value now
   pub unlogged : List (List Record)
-  -- how many records the commits since the opening appended to each output
-  pub appended : List ℕ
+  -- how many records of each output were cleared: the commits since the opening appended them to its log
+  pub cleared : List ℕ
   -- the last checkpoint
   pub mark : Option Checkpoint
   -- a commit was begun and not finished
   pub broken : Bool
 
+-- the image has the checkpoint that a commit of this unit makes
+abbrev pub IsCommitOf : {P D S : Type 0} → UnitValue P D S → Image → Image → Checkpoint → Type 0
+IsCommitOf u before after made = IsCommitted u.setup before after u.mark u.next u.state u.unlogged made
+
+-- what a crash in the unit's commit that makes this checkpoint leaves of an image at its start
+abbrev pub MadeLeaves : {P D S : Type 0} → UnitValue P D S → Image → List Content → Checkpoint → Image → Image → Type 0
+MadeLeaves u before contents made old new = LeavesMade u.setup before old new u.mark contents u.next u.state u.unlogged made
+
+-- the same, with some checkpoint
+abbrev pub CrashLeaves : {P D S : Type 0} → UnitValue P D S → Image → List Content → Image → Image → Type 0
+CrashLeaves u before contents old new = CommitLeaves u.setup before old new u.mark contents u.next u.state u.unlogged
+
+-- one of the files to which a commit of this unit would append something would pass 2^40 bytes by it
+abbrev pub CommitPasses : {P D S : Type 0} → UnitValue P D S → Image → Type 0
+CommitPasses u image = PassesLimit u.setup image u.mark u.next u.unlogged u.state.sent
+
 -- each output's count is the one before and what was sent
 abbrev pub Counts : Setup → List ℕ → List ℕ → List (List Record) → Type 0
-Counts s before after sent = (j : ℕ) → j < length s.outputs → appended_at after j ≡ appended_at before j + length (sent_at sent j)
+Counts s before after sent = (j : ℕ) → j < length s.outputs → cleared_at after j ≡ cleared_at before j + length (sent_at sent j)
 
 -- nothing was sent to an output since the last commit
 abbrev pub NothingUnsent : Setup → List (List Record) → Type 0
@@ -176,7 +129,7 @@ input_of s = slice_index_or s.inputs 0 (record { ssp = record { system = []; str
 pub record IsMessage (s : Setup) (messages : List Record) (offset : ℕ) (e : Envelope) : Type 0 where
   pub ssp_is : e.ssp ≡ (input_of s).ssp
   pub offset_is : e.offset ≡ offset
-  pub body_is : slice_get messages offset ≡ Some e.body
+  pub body_is : message (partition_of messages) offset ≡ Some e.body
 
 -- the job was done with the next message, and the unit stands behind it
 pub record IsProcessed (job : Meaning) (s : Setup) (messages : List Record) (next : ℕ) (state : State) (unlogged : List (List Record)) (next' : ℕ) (state' : State) (unlogged' : List (List Record)) : Type 0 where
@@ -186,7 +139,7 @@ pub record IsProcessed (job : Meaning) (s : Setup) (messages : List Record) (nex
   pub state_is : (runs job s message state).state ≡ state'
   -- the keys that were unlogged and those that the job set or took away, each with its value now
   pub unlogged_is : (i : ℕ) → i < length s.stores
-      → unlogged_at unlogged' i ≡ records_of (store_at state'.stores i) (touched i (keys_in (unlogged_at unlogged i)) (acts_of job s message state))
+      → unlogged_at unlogged' i ≡ records_of (store_at state'.stores i) (fin.keys (touched i (keys_in (unlogged_at unlogged i)) (acts_of job s message state)))
   pub next_is : next' ≡ next + 1
 
 -- the job failed the next message
@@ -212,8 +165,8 @@ pub record IsPastEnd (tells told : Type 0) (s : Setup) (image : Image) (bytes : 
   pub next : ℕ
   pub kept : next_at mark 0 ≡ Some next
   pub honoured : (input_of s).reset ≡ false
-  pub past : length records < next
-  pub fault : e ≡ Ahead (Some 0) None next (length records)
+  pub past : end_of (partition_of records) < next
+  pub fault : e ≡ Ahead (Some 0) None next (end_of (partition_of records))
 
 -- what a refusal tells, on every outside: one of the task's own files or stores, or its input
 abbrev pub TellsTask : Setup → OpenFault → Type 0

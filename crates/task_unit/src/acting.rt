@@ -3,17 +3,20 @@ ghost use Rattle.std.specs.Prelude.{◌≡◌, ◌+◌, ◌<◌, ◌≤◌, ◌+
 ghost use Rattle.std.specs.Option.{option_copied};
 ghost use Rattle.std.specs.FinMap as map;
 ghost use Rattle.samza_model.specs.Content.{changed, answer_of, found, found_pair, next_pair};
-ghost use Rattle.samza_model.specs.Limits.{act_fits, key_fits, value_fits, IsWithinLimits};
+ghost use Rattle.samza_model.specs.Limits.{act_fits, key_fits, key_limit, value_fits, value_limit, IsWithinLimits};
 ghost use Rattle.samza_model.specs.declared.acts.Act.{Act as ActValue};
 ghost use Rattle.samza_model.specs.Runs.{End, end_at, run_on, runs};
-ghost use Rattle.task_unit.specs.Acting.{held, undos_of, GoesBack, with_stored, with_sent, IsSized, SameSizes, KeepsClean, IsTouched, AreTouched, end_seen};
+ghost use Rattle.task_unit.specs.Acting.{held, undos_of, GoesBack, with_stored, with_sent, SameSizes, KeepsClean, IsTouched, AreTouched, end_seen};
+ghost use Rattle.unit_logs.specs.Held.{IsSized, Held, state_of, tracked_at};
 ghost use Rattle.task_unit.specs.Touched.{acts_of};
 ghost use Rattle.samza_model.specs.declared.turns.Why.{Why};
-ghost use Rattle.task_unit.specs.Held.{Held, state_of, tracked_at, taken_back, MayTake, LeadsTo};
+ghost use Rattle.task_unit.specs.Held.{taken_back, MayTake, LeadsTo};
 
 use kv_store::{TrackedTable, Undo};
 use output_log::Outputs;
-use samza_model::{Act, Answer, Bin, Envelope, Job, NoMemory, Plain, Record, Setup, Why};
+use samza_model::{
+    Act, Answer, Bin, Envelope, Job, KEY_LIMIT, NoMemory, Plain, Record, Setup, VALUE_LIMIT, Why,
+};
 use std::alloc::Global;
 
 /// What takes one act back.
@@ -72,8 +75,8 @@ impl Holdings {
     /// Sets a key of a store, or takes it away.
     fn change(&mut self, store: u32, key: Bin, value: Option<Bin>) -> Result<Answer, NoMemory>
         requires store { store < length (held self.old).stores }
-        requires key { length key ≤ 1024 }
-        requires value { IfSome value (λ v. length v ≤ 65536) }
+        requires key { length key ≤ key_limit }
+        requires value { IfSome value (λ v. length v ≤ value_limit) }
         ensures held { IfOk result (λ a. (a ≡ Answer.Noted) × (held self.new ≡ with_stored (held self.old) store key value)) }
         ensures err { OnErr result (held self.new ≡ held self.old) }
         ensures back { GoesBack self.old self.new }
@@ -101,8 +104,8 @@ impl Holdings {
     /// A key set to a value.
     fn put(&mut self, store: u32, key: Bin, value: Bin) -> Result<Answer, NoMemory>
         requires store { store < length (held self.old).stores }
-        requires key { length key ≤ 1024 }
-        requires value { length value ≤ 65536 }
+        requires key { length key ≤ key_limit }
+        requires value { length value ≤ value_limit }
         ensures answered { IfOk result (λ a. a ≡ answer_of (state_of (held self.old)) (Act.Put store key value)) }
         ensures made { OnOk result (state_of (held self.new) ≡ changed (state_of (held self.old)) (Act.Put store key value)) }
         ensures touched { OnOk result (IsTouched (held self.old) (held self.new) (Act.Put store key value)) }
@@ -120,7 +123,7 @@ impl Holdings {
     /// A key taken away.
     fn delete(&mut self, store: u32, key: Bin) -> Result<Answer, NoMemory>
         requires store { store < length (held self.old).stores }
-        requires key { length key ≤ 1024 }
+        requires key { length key ≤ key_limit }
         ensures answered { IfOk result (λ a. a ≡ answer_of (state_of (held self.old)) (Act.Delete store key)) }
         ensures made { OnOk result (state_of (held self.new) ≡ changed (state_of (held self.old)) (Act.Delete store key)) }
         ensures touched { OnOk result (IsTouched (held self.old) (held self.new) (Act.Delete store key)) }
@@ -298,10 +301,10 @@ fn fits_record(key: &Bin, value: Option<&Bin>) -> bool
     ensures { result ≡ (key_fits key.now && value_fits (option_copied value.entry)) }
 {
     let value_fits = match value {
-        Some(value) => value.bytes().len() <= 65_536,
+        Some(value) => value.bytes().len() <= VALUE_LIMIT,
         None => true,
     };
-    key.bytes().len() <= 1_024 && value_fits
+    key.bytes().len() <= KEY_LIMIT && value_fits
 }
 
 /// Whether an act names a store or an output that is there, with a key and a value that aren't too long.

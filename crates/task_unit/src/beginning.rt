@@ -7,22 +7,26 @@ ghost use Rattle.samza_model.specs.Content.{sent_at};
 ghost use Rattle.samza_model.specs.Counters.{Rose};
 ghost use Rattle.samza_model.specs.Files.{Image};
 ghost use Rattle.samza_model.specs.Logs.{HasLog};
-ghost use Rattle.samza_model.specs.Restored.{Restores, next_at, start_of};
+ghost use Rattle.samza_model.specs.Partition.{partition_of};
+ghost use Rattle.samza_model.specs.Restored.{Restores, id_of, next_at, start_of};
 ghost use Rattle.disk_model.specs.Images.{LeavesOnly};
 ghost use Rattle.kv_store.specs.Tracked.{AreWithinLimits};
 ghost use Rattle.restore_trim.specs.Crashes.{OpeningLeaves};
 ghost use Rattle.restore_trim.specs.Refused.{StoresOpen};
+ghost use Rattle.topic_log.specs.Opened.{count_of};
 ghost use Rattle.restore_trim.specs.Standing.{OthersStay};
-ghost use Rattle.task_unit.specs.Acting.{held, undos_of, IsSized};
-ghost use Rattle.task_unit.specs.Held.{AreClean, contents_of, state_of};
+ghost use Rattle.output_log.specs.Outputs.{cleared_at};
+ghost use Rattle.task_unit.specs.Acting.{held, undos_of};
+ghost use Rattle.unit_logs.specs.Held.{IsSized, contents_of, state_of};
+ghost use Rattle.task_unit.specs.Held.{AreClean};
 ghost use Rattle.task_unit.specs.Inputs.{TellsInput, WhyNoInput};
-ghost use Rattle.task_unit.specs.Units.{IsSetUp, LogsStay, AreWhole, IsMessage, OnDisk, appended_at, input_of, TellsTask, WhyNotOpened};
-ghost use Rattle.task_unit.specs.Written.{AreSound};
+ghost use Rattle.unit_logs.specs.Standing.{IsSetUp, OnDisk};
+ghost use Rattle.task_unit.specs.Units.{LogsStay, AreWhole, IsMessage, input_of, TellsTask, WhyNotOpened};
+ghost use Rattle.unit_logs.specs.Written.{AreSound};
 
 use crate::OpenFault;
 use crate::acting::Holdings;
 use crate::lists::put;
-use crate::writing::Logs;
 use changelog::Changelog;
 use disk_model::{Disk, Shelf};
 use kv_store::{Table, TrackedTable};
@@ -33,6 +37,7 @@ use samza_model::{
 };
 use std::alloc::Global;
 use topic_log::{Log, LogFault, read_shelf};
+use unit_logs::Logs;
 
 /// What a unit begins with.
 #[derive(Drop)]
@@ -45,6 +50,7 @@ pub(crate) struct Started {
 }
 
 /// The input's message at an offset, with its place.
+#[tactic(auto, using(samza_model::proofs::Partitions::message_in))]
 pub(crate) fn envelope_at(
     alloc: Global,
     setup: &Setup,
@@ -91,8 +97,9 @@ fn logs_of(alloc: Global, changelogs: Items<Changelog>) -> Result<Vec<Log>, NoMe
 }
 
 /// An input's first offset: the kept one, unless there is none or the input is reset.
+#[tactic(auto, using(samza_model::proofs::Partitions::start_in, samza_model::proofs::Partitions::end_in))]
 fn first_offset(kept: Option<u64>, input: &InputSetup, end: u64) -> Result<u64, OpenFault>
-    ensures start { IfOk result (λ n. (records : List RecordValue) → end ≡ length records → n ≡ start_of kept input.now (record { first = 0; records = records })) }
+    ensures start { IfOk result (λ n. (records : List RecordValue) → end ≡ length records → n ≡ start_of kept input.now (partition_of records)) }
     ensures within { IfOk result (λ n. n ≤ end) }
     ensures never { IfErr result (λ e. e ≢ OpenFault.Device) }
     ensures told { (partition : ℕ) → IfErr result (TellsInput partition) }
@@ -144,7 +151,7 @@ fn hold(alloc: Global, stores: Vec<TrackedTable>, outputs: u32) -> Result<Holdin
     ensures stores { IfOk result (λ h. (held h).stores ≡ stores.items) }
     ensures outputs { IfOk result (λ h. length (held h).unsent ≡ outputs) }
     ensures none { IfOk result (λ h. (j : ℕ) → j < outputs → sent_at (held h).unsent j ≡ []) }
-    ensures none_before { IfOk result (λ h. (j : ℕ) → j < outputs → appended_at (held h).cleared j ≡ 0) }
+    ensures none_before { IfOk result (λ h. (j : ℕ) → j < outputs → cleared_at (held h).cleared j ≡ 0) }
     ensures idle { IfOk result (λ h. undos_of h ≡ []) }
 {
     let outputs = Outputs::new(alloc, outputs)?;
@@ -193,7 +200,7 @@ fn begin(
     ensures clean { IfOk result (λ r. AreClean (held r.holdings).stores) }
     ensures outputs { IfOk result (λ r. length (held r.holdings).unsent ≡ outputs) }
     ensures none { IfOk result (λ r. (j : ℕ) → j < outputs → sent_at (held r.holdings).unsent j ≡ []) }
-    ensures none_before { IfOk result (λ r. (j : ℕ) → j < outputs → appended_at (held r.holdings).cleared j ≡ 0) }
+    ensures none_before { IfOk result (λ r. (j : ℕ) → j < outputs → cleared_at (held r.holdings).cleared j ≡ 0) }
     ensures idle { IfOk result (λ r. undos_of r.holdings ≡ []) }
     ensures input { IfOk result (λ r. (r.messages.items ≡ messages.items) × (r.next ≡ next)) }
 {
@@ -227,9 +234,10 @@ pub(crate) fn start<D: Disk, S: Shelf>(
     ensures logs_stay { IfOk result (λ r. D.tells → LogsStay setup.now r.mark (D.reads disk.old) (D.reads disk.new)) }
     ensures whole { IfOk result (λ r. D.tells → AreWhole setup.now (D.reads disk.new) (state_of (held r.holdings)).stores) }
     ensures others { OnOk result (D.tells → OthersStay (length setup.now.stores) (length setup.now.outputs) (D.reads disk.old) (D.reads disk.new)) }
+    ensures refused_others { IfErr result (λ e. e ≢ OpenFault.Device → D.tells → OthersStay (length setup.now.stores) (length setup.now.outputs) (D.reads disk.old) (D.reads disk.new)) }
     ensures unsent { IfOk result (λ r. (j : ℕ) → j < length setup.now.outputs → sent_at (held r.holdings).unsent j ≡ []) }
     ensures messages { IfOk result (λ r. S.tells → HasLog (S.bytes shelf.old) r.messages.items) }
-    ensures start { IfOk result (λ r. r.next ≡ start_of (next_at r.mark 0) (input_of setup.now) (record { first = 0; records = r.messages.items })) }
+    ensures start { IfOk result (λ r. r.next ≡ start_of (next_at r.mark 0) (input_of setup.now) (partition_of r.messages.items)) }
     ensures within { IfOk result (λ r. r.next ≤ length r.messages.items) }
     ensures clean { IfOk result (λ r. AreClean (held r.holdings).stores) }
     ensures sized { IfOk result (λ r. IsSized setup.now (held r.holdings)) }
@@ -237,10 +245,12 @@ pub(crate) fn start<D: Disk, S: Shelf>(
     ensures changelogs { IfOk result (λ r. length r.logs.changelogs.items ≡ length setup.now.stores) }
     ensures outputs { IfOk result (λ r. length r.logs.outputs.items ≡ length setup.now.outputs) }
     ensures sound { IfOk result (λ r. AreSound r.logs) }
-    ensures none_appended { IfOk result (λ r. (j : ℕ) → j < length setup.now.outputs → appended_at (held r.holdings).cleared j ≡ 0) }
+    ensures counted { IfOk result (λ r. count_of r.logs.marks ≡ id_of r.mark) }
+    ensures none_appended { IfOk result (λ r. (j : ℕ) → j < length setup.now.outputs → cleared_at (held r.holdings).cleared j ≡ 0) }
     ensures why { IfErr result (λ e. WhyNotOpened D.tells S.tells setup.now (D.reads disk.old) (S.bytes shelf.old) e) }
     ensures told { IfErr result (TellsTask setup.now) }
     ensures durable { IfOk result (λ r. D.tells → (c : Image) → D.images disk.new c → Restores setup.now c r.mark (state_of (held r.holdings)).stores) }
+    ensures logs_durable { IfOk result (λ r. D.tells → (c : Image) → D.images disk.new c → LogsStay setup.now r.mark (D.reads disk.old) c) }
     ensures any_moment { D.tells → LeavesOnly D.call_number D.images D.images_since disk.old disk.new (OpeningLeaves setup.now) }
     ensures device { IfErr result (λ e. e ≡ OpenFault.Device → Rose (D.fault_count disk.old) (D.fault_count disk.new) ⊎ Rose (S.fault_count shelf.old) (S.fault_count shelf.new)) }
     ensures later { (D.fault_count disk.old ≤ D.fault_count disk.new) × (S.fault_count shelf.old ≤ S.fault_count shelf.new) }

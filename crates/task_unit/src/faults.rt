@@ -1,4 +1,4 @@
-// Why a task's unit refuses, once it is open.
+// Why a task's unit doesn't process a message.
 
 use samza_model::{Failure, NoMemory};
 
@@ -18,34 +18,5 @@ impl From<NoMemory> for OneFault {
 
     fn from(_: NoMemory) -> Self {
         OneFault::NoMemory
-    }
-}
-
-/// Why a commit wasn't made.
-#[derive(Clone, Copy, Debug, PartialEq, Eq)]
-pub enum CommitFault {
-    /// A turn failed.
-    Failed,
-    /// An earlier commit answered `Device`. Open the task anew.
-    Broken,
-    /// A window is open.
-    Windowing,
-    /// So many messages are in flight.
-    Busy { in_flight: u32 },
-    NoMemory,
-    /// A file would pass 2^40 bytes.
-    Limit,
-    /// The disk failed, and its count of faults rose.
-    Device,
-}
-
-impl From<NoMemory> for CommitFault {
-    ghost use Rattle.std.specs.Prelude.{◌≡◌};
-    ghost use Rattle.task_unit.specs.declared.faults.CommitFault.TheVariants.{NoMemory as NoRoom};
-
-    ghost from_gives = { λ _ e. e ≡ NoRoom };
-
-    fn from(_: NoMemory) -> Self {
-        CommitFault::NoMemory
     }
 }

@@ -2,21 +2,18 @@
 #![tactic(auto)]
 
 mod acting;
-mod appending;
 mod beginning;
 mod committing;
 mod faults;
 mod laws;
 mod lists;
-mod planning;
-mod room;
 mod units;
-mod writing;
 
-pub use faults::{CommitFault, OneFault};
+pub use faults::OneFault;
 pub use laws::{
     open_one_opens_or_says_why, open_one_opens_with_one_cause, opens_or_says_why,
     opens_with_one_cause,
 };
 pub use restore_trim::OpenFault;
+pub use unit_logs::CommitFault;
 pub use units::{LaneState, Mark, OneUnit};

@@ -7,23 +7,25 @@ ghost use Rattle.samza_model.specs.declared.turns.Failure.{Failure as FailureVal
 ghost use Rattle.samza_model.specs.Content.{Content, sent_at, store_at};
 ghost use Rattle.samza_model.specs.Files.{Image};
 ghost use Rattle.samza_model.specs.Logs.{HasLog};
+ghost use Rattle.samza_model.specs.Partition.{partition_of};
 ghost use Rattle.samza_model.specs.Restored.{Restores, id_of, next_at, start_of};
 ghost use Rattle.disk_model.specs.Images.{LeavesOnly};
+ghost use Rattle.output_log.specs.Outputs.{cleared_at};
 ghost use Rattle.restore_trim.specs.Crashes.{OpeningLeaves};
 ghost use Rattle.restore_trim.specs.Refused.{StoresOpen};
 ghost use Rattle.restore_trim.specs.Standing.{OthersStay};
-ghost use Rattle.task_unit.specs.Growth.{PassesLimit};
-ghost use Rattle.task_unit.specs.Units.{IsSetUp, LogsStay, IsCommitted, CommitLeaves, Counts, appended_at, IsProcessed, IsFailed, NothingUnsent, NothingUnlogged, AreWhole, input_of, TellsTask, WhyNotOpened};
+ghost use Rattle.unit_logs.specs.Standing.{IsSetUp};
+ghost use Rattle.task_unit.specs.Units.{LogsStay, Counts, IsProcessed, IsFailed, IsCommitOf, MadeLeaves, CrashLeaves, CommitPasses, NothingUnsent, NothingUnlogged, AreWhole, input_of, TellsTask, WhyNotOpened};
 
 use crate::acting::Holdings;
 use crate::beginning::{envelope_at, start};
-use crate::committing::{flush_all, plan_commit};
-use crate::writing::Logs;
+use crate::committing::{flush_all, plan_held};
 use crate::{CommitFault, OneFault, OpenFault};
 use disk_model::{Disk, Shelf};
 use samza_model::{Checkpoint, Failure, Job, Record, Setup, Turn};
 use std::alloc::Global;
 use std::marker::Model;
+use unit_logs::Logs;
 
 /// A checkpoint that was made, by its number.
 #[derive(Clone, Copy, Debug, PartialEq, Eq)]
@@ -64,14 +66,15 @@ pub struct OneUnit<'j, J: Job, D: Disk, S: Shelf> {
 impl<'j, J: Job, D: Disk, S: Shelf> Model for OneUnit<'j, J, D, S> {
     ghost use Rattle.std.specs.Coded.{codes};
     ghost use Rattle.task_unit.specs.Acting.{held};
-    ghost use Rattle.task_unit.specs.Held.{state_of, unlogged_of};
-    ghost use Rattle.task_unit.specs.Units.{UnitValue, content_code, IsUnit};
+    ghost use Rattle.unit_logs.specs.Held.{state_of, unlogged_of};
+    ghost use Rattle.samza_model.specs.Content.{content_code};
+    ghost use Rattle.task_unit.specs.Units.{UnitValue, IsUnit};
 
     ghost Value = { UnitValue J.Plain D S };
 
     ghost coded = { Prim.hlevel (codes, content_code) };
 
-    ghost view = { λ u. record { job = J.plain u.job.now; setup = u.setup; disk = u.disk; shelf = u.shelf; messages = u.messages.items; begun = u.begun; next = u.next; state = state_of (held u.holdings); unlogged = unlogged_of (held u.holdings).stores; appended = (held u.holdings).cleared; mark = u.mark; broken = u.broken } };
+    ghost view = { λ u. record { job = J.plain u.job.now; setup = u.setup; disk = u.disk; shelf = u.shelf; messages = u.messages.items; begun = u.begun; next = u.next; state = state_of (held u.holdings); unlogged = unlogged_of (held u.holdings).stores; cleared = (held u.holdings).cleared; mark = u.mark; broken = u.broken } };
 
     ghost invariant = { λ u. IsUnit D.tells D.reads D.images u.setup u.disk u.logs u.mark u.holdings u.messages.items u.begun u.next u.broken };
 }
@@ -92,17 +95,20 @@ impl<'j, J: Job, D: Disk, S: Shelf> OneUnit<'j, J, D, S> {
         ensures outputs { IfOk result (λ u. length u.state.sent ≡ length setup.outputs) }
         ensures unsent { IfOk result (λ u. NothingUnsent setup u.state.sent) }
         ensures unlogged { IfOk result (λ u. NothingUnlogged setup u.unlogged) }
-        ensures none_appended { IfOk result (λ u. (j : ℕ) → j < length setup.outputs → appended_at u.appended j ≡ 0) }
+        ensures none_appended { IfOk result (λ u. (j : ℕ) → j < length setup.outputs → cleared_at u.cleared j ≡ 0) }
         ensures messages { IfOk result (λ u. S.tells → HasLog (S.bytes shelf) u.messages) }
-        ensures start { IfOk result (λ u. (u.next ≡ start_of (next_at u.mark 0) (input_of setup) (record { first = 0; records = u.messages })) × (u.begun ≡ u.next)) }
+        ensures start { IfOk result (λ u. (u.next ≡ start_of (next_at u.mark 0) (input_of setup) (partition_of u.messages)) × (u.begun ≡ u.next)) }
         // The logs are as they were, but for what takes the records behind those that the checkpoint counts back.
         ensures logs_stay { IfOk result (λ u. D.tells → LogsStay setup u.mark (D.reads disk) (D.reads u.disk)) }
         // All records of each changelog make its store's content.
         ensures whole { IfOk result (λ u. D.tells → AreWhole setup (D.reads u.disk) u.state.stores) }
-        // The files that are none of the task's are as before.
+        // The files that are none of the task's are as before, also after a refusal but for `Device`.
+        ensures back_others { IfErr result (λ e. e.0 ≢ OpenFault.Device → D.tells → OthersStay (length setup.stores) (length setup.outputs) (D.reads disk) (D.reads e.1)) }
         ensures others { IfOk result (λ u. D.tells → OthersStay (length setup.stores) (length setup.outputs) (D.reads disk) (D.reads u.disk)) }
         // After Ok every image restores as the unit did.
         ensures durable { IfOk result (λ u. D.tells → (c : Image) → D.images u.disk c → Restores setup c u.mark u.state.stores) }
+        // The logs of every image stay so too.
+        ensures logs_durable { IfOk result (λ u. D.tells → (c : Image) → D.images u.disk c → LogsStay setup u.mark (D.reads disk) c) }
         // A crash at any moment leaves files that restore as before.
         ensures any_moment { IfOk result (λ u. D.tells → LeavesOnly D.call_number D.images D.images_since disk u.disk (OpeningLeaves setup)) }
         ensures back_any_moment { IfErr result (λ e. D.tells → LeavesOnly D.call_number D.images D.images_since disk e.1 (OpeningLeaves setup)) }
@@ -150,7 +156,7 @@ impl<'j, J: Job, D: Disk, S: Shelf> OneUnit<'j, J, D, S> {
         ensures disk { self.new.disk ≡ self.old.disk }
         ensures shelf { self.new.shelf ≡ self.old.shelf }
         ensures mark { (self.new.mark ≡ self.old.mark) × (self.new.broken ≡ self.old.broken) }
-        ensures appended { self.new.appended ≡ self.old.appended }
+        ensures appended { self.new.cleared ≡ self.old.cleared }
     {
         let envelope = match envelope_at(
             self.alloc,
@@ -179,26 +185,33 @@ impl<'j, J: Job, D: Disk, S: Shelf> OneUnit<'j, J, D, S> {
     /// covers the messages below the next one. Memory is taken first, then `Limit` is tested over all files, and only then
     /// anything is written. After `Device` the unit is broken, and answers `Broken` from then on.
     pub fn commit(&mut self) -> Result<Mark, CommitFault>
-        ensures committed { OnOk result (D.tells → (made : CheckpointValue) × (self.new.mark ≡ Some made) × IsCommitted self.old.setup (D.reads self.old.disk) (D.reads self.new.disk) self.old.mark self.old.next self.old.state made) }
-        // The files that are none of the task's are as before.
-        ensures others { OnOk result (D.tells → OthersStay (length self.old.setup.stores) (length self.old.setup.outputs) (D.reads self.old.disk) (D.reads self.new.disk)) }
-        // After Ok every image has the next checkpoint.
-        ensures durable { OnOk result (D.tells → (made : CheckpointValue) × (self.new.mark ≡ Some made) × ((c : Image) → D.images self.new.disk c → IsCommitted self.old.setup (D.reads self.old.disk) c self.old.mark self.old.next self.old.state made)) }
+        ensures committed { OnOk result (D.tells → (made : CheckpointValue) × (self.new.mark ≡ Some made) × IsCommitOf self.old (D.reads self.old.disk) (D.reads self.new.disk) made) }
+        // After Ok every image has that checkpoint.
+        ensures durable { OnOk result (D.tells → (made : CheckpointValue) → self.new.mark ≡ Some made → (c : Image) → D.images self.new.disk c → IsCommitOf self.old (D.reads self.old.disk) c made) }
         // A crash at any moment leaves the checkpoint before with its contents, or the next one with the unit's.
         ensures any_moment { D.tells → self.old.broken ≡ false → (contents : List Content) → Restores self.old.setup (D.reads self.old.disk) self.old.mark contents
-            → LeavesOnly D.call_number D.images D.images_since self.old.disk self.new.disk (λ _ c. CommitLeaves self.old.setup (D.reads self.old.disk) c self.old.mark contents self.old.next self.old.state) }
+            → LeavesOnly D.call_number D.images D.images_since self.old.disk self.new.disk (CrashLeaves self.old (D.reads self.old.disk) contents) }
+        // After Ok the next one is the one that was made.
+        ensures made_any_moment { OnOk result (D.tells → (made : CheckpointValue) → self.new.mark ≡ Some made → (contents : List Content) → Restores self.old.setup (D.reads self.old.disk) self.old.mark contents
+            → LeavesOnly D.call_number D.images D.images_since self.old.disk self.new.disk (MadeLeaves self.old (D.reads self.old.disk) contents made)) }
+        // The files that are none of the task's are as before, whatever comes, and in each image.
+        ensures others { OnOk result (D.tells → OthersStay (length self.old.setup.stores) (length self.old.setup.outputs) (D.reads self.old.disk) (D.reads self.new.disk)) }
+        ensures others_any_moment { D.tells → LeavesOnly D.call_number D.images D.images_since self.old.disk self.new.disk (OthersStay (length self.old.setup.stores) (length self.old.setup.outputs)) }
+        // On every outside the answered number is the new checkpoint's, and one more than the one before.
         ensures answered { IfOk result (λ m. (made : CheckpointValue) × (self.new.mark ≡ Some made) × (m.id ≡ made.id)) }
+        ensures numbered { OnOk result (id_of self.new.mark ≡ id_of self.old.mark + 1) }
+        ensures covers { OnOk result (next_at self.new.mark 0 ≡ Some self.old.next) }
         ensures cleared { OnOk result (NothingUnsent self.old.setup self.new.state.sent) }
         ensures flushed { OnOk result (NothingUnlogged self.old.setup self.new.unlogged) }
-        ensures counted { OnOk result (Counts self.old.setup self.old.appended self.new.appended self.old.state.sent) }
+        ensures counted { OnOk result (Counts self.old.setup self.old.cleared self.new.cleared self.old.state.sent) }
         ensures given { (self.new.job ≡ self.old.job) × (self.new.setup ≡ self.old.setup) × (self.new.shelf ≡ self.old.shelf) × (self.new.messages ≡ self.old.messages) × (self.new.begun ≡ self.old.begun) }
         ensures kept { (self.new.next ≡ self.old.next) × (self.new.state.stores ≡ self.old.state.stores) }
-        ensures unmade { OnErr result ((self.new.state ≡ self.old.state) × (self.new.unlogged ≡ self.old.unlogged) × (self.new.mark ≡ self.old.mark) × (self.new.appended ≡ self.old.appended)) }
+        ensures unmade { OnErr result ((self.new.state ≡ self.old.state) × (self.new.unlogged ≡ self.old.unlogged) × (self.new.mark ≡ self.old.mark) × (self.new.cleared ≡ self.old.cleared)) }
         ensures refused { IfErr result (λ e. e ≢ CommitFault.Device → self.new ≡ self.old) }
 
-        ensures limit { IfErr result (λ e. e ≡ CommitFault.Limit → D.tells → PassesLimit self.old.setup (D.reads self.old.disk) self.old.unlogged self.old.state.sent) }
-        ensures tested { IfErr result (λ e. e ≡ CommitFault.Device → D.tells → PassesLimit self.old.setup (D.reads self.old.disk) self.old.unlogged self.old.state.sent → ⊥) }
-        ensures room { OnOk result (D.tells → PassesLimit self.old.setup (D.reads self.old.disk) self.old.unlogged self.old.state.sent → ⊥) }
+        ensures limit { IfErr result (λ e. e ≡ CommitFault.Limit → D.tells → CommitPasses self.old (D.reads self.old.disk)) }
+        ensures tested { IfErr result (λ e. e ≡ CommitFault.Device → D.tells → CommitPasses self.old (D.reads self.old.disk) → ⊥) }
+        ensures room { OnOk result (D.tells → CommitPasses self.old (D.reads self.old.disk) → ⊥) }
 
         ensures ok { OnOk result ((self.old.broken ≡ false) × (self.new.broken ≡ false)) }
         ensures broken { IfErr result (λ e. (e ≡ CommitFault.Broken) ↔ (self.old.broken ≡ true)) }
@@ -212,7 +225,7 @@ impl<'j, J: Job, D: Disk, S: Shelf> OneUnit<'j, J, D, S> {
         if self.broken {
             return Err(CommitFault::Broken);
         }
-        let (plan, made) = plan_commit(
+        let (plan, made) = plan_held(
             self.alloc,
             &self.setup,
             &self.logs,
@@ -259,7 +272,7 @@ impl<'j, J: Job, D: Disk, S: Shelf> OneUnit<'j, J, D, S> {
     /// How many records an output was sent since the opening, committed or not.
     pub fn sent(&self, output: u32) -> u64
         requires { output < length self.now.setup.outputs }
-        ensures { result ≡ appended_at self.now.appended output + length (sent_at self.now.state.sent output) }
+        ensures { result ≡ cleared_at self.now.cleared output + length (sent_at self.now.state.sent output) }
     {
         self.holdings.outputs.sent(output)
     }

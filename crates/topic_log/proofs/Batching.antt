@@ -10,7 +10,7 @@ use Rattle.topic_log.specs.declared.extents.Place.{Place}
 use Rattle.topic_log.specs.declared.extents.Extent.{Extent}
 use Rattle.topic_log.specs.declared.logs.Log.{Log}
 use Rattle.topic_log.specs.Batches.{HasPlace}
-use Rattle.topic_log.specs.Extents.{IsPlace, IsExtent}
+use Rattle.topic_log.specs.Extents.{StandsBehind, IsExtent}
 use Rattle.topic_log.specs.Opened.{IsOpen}
 use Rattle.topic_log.proofs.Spelling.{spelled-append, joined-append, spelled-push, joined-push, some_bytes, no_frames, all_back}
 use Rattle.samza_model.specs.Limits.{IsFrameable}
@@ -84,7 +84,7 @@ module _ (reads : Image) (images : Image → Type 0) (log : Log) (place : Place)
 
   -- the place behind it
   pub next_is : (f : NextFrame (reads log.file) frames before (place.byte + 1) (log.extent.gate - (place.byte + 1))) (records : List Record) (used : ℕ) (next : Place) → records ≡ f.records → used ≡ length (frame_bytes f.records)
-      → next.byte ≡ place.byte + 1 + used → (place.index + length records < 2 ^ 64 → next.index ≡ place.index + length records) → IsPlace frames (before ++ records ∷ []) next
+      → next.byte ≡ place.byte + 1 + used → (place.index + length records < 2 ^ 64 → next.index ≡ place.index + length records) → StandsBehind frames (before ++ records ∷ []) next
   next_is f records used next same long byte index =
       let joined_are : length (joined frames) ≡ length (joined before) + (length f.records + length (joined f.more)) =
       omega (arith, ap (λ (fs : List (List Record)). length (joined fs)) f.frames_are, ap length (joined-append before (f.records ∷ f.more)), length-append (joined before) (joined (f.records ∷ f.more)), length-append f.records (joined f.more)) in

@@ -9,18 +9,20 @@ use Rattle.log_frame.specs.Frame.{FrameView, IsFrame, AreFrames}
 use Rattle.topic_log.specs.declared.extents.Place.{Place}
 use Rattle.topic_log.specs.declared.extents.Extent.{Extent}
 use Rattle.topic_log.specs.Extents.{IsExtent, IsLastOf}
-use Rattle.topic_log.specs.Steps.{closed_frames}
+use Rattle.topic_log.specs.Steps.{closed_frames, record_count}
 use Rattle.topic_log.proofs.Spelling.{spelled-push, joined-push, all_append}
-use Rattle.topic_log.proofs.Writing.{closed-more}
+use Rattle.topic_log.proofs.Writing.{closed-more, count-more}
 
 -- what holds after the first i frames
 pub record Extending (start now : Extent) (frames : List FrameView) (i : ℕ) : Type 0 where
   pub gate : now.gate ≡ start.gate + length (closed_frames (take i frames))
+  pub count : now.count ≡ start.count + record_count (take i frames)
   pub extent : (before lists : List (List Record)) → IsExtent start before → AreFrames frames lists → IsExtent now (before ++ take i lists)
 
 pub extending_none : (start : Extent) (frames : List FrameView) → Extending start start frames 0
 extending_none start frames = record {
   gate = omega arith;
+  count = omega arith;
   extent = λ before lists is are. subst (λ (l : List (List Record)). IsExtent start l) (sym (append-nil before)) is;
 }
 
@@ -36,7 +38,7 @@ extent_grown old new len count before records grows is fits long many = record {
   frameable = all_append IsFrameable before (records ∷ []) is.frameable (fits, tt);
   gate = omega (arith, grows.gate, is.gate, ap length (spelled-push before records), length-append (spelled before) (0x4F ∷ frame_bytes records));
   count = omega (arith, grows.count_is, is.count, ap length (joined-push before records), length-append (joined before) records);
-  last = subst (λ (o : Option Place). IsLastOf o (before ++ records ∷ [])) (sym grows.last) (record { before = before; batch = records; front = refl; byte = is.gate; index = is.count });
+  last = subst (λ (o : Option Place). IsLastOf o (before ++ records ∷ [])) (sym grows.last) (record { before = before; batch = records; front = refl; stands = record { behind = records ∷ []; front = refl; byte = is.gate; index = is.count } });
 }
 
 -- the frame at a place is that of the list there
@@ -56,6 +58,7 @@ pub extending_more : (start old new : Extent) (frames : List FrameView) (i : ℕ
     → Grows old new len count → len ≡ length f.bytes → count ≡ f.count → Extending start new frames (i + 1)
 extending_more start old new frames i f len count so_far lt item grows long many = record {
   gate = omega (arith, grows.gate, so_far.gate, ap length (closed-more frames i f lt item), length-append (closed_frames (take i frames)) (f.bytes ++ 0x43 ∷ []), length-append f.bytes (0x43 ∷ []), long);
+  count = omega (arith, grows.count_is, so_far.count, count-more frames i f lt item, many);
   extent = λ before lists is are.
       let here : IsFrame f (get_or lists i []) = subst (λ (g : FrameView). IsFrame g (get_or lists i [])) (sym item) (are_at frames lists i f are lt) in
       let within : i < length lists = omega (arith, are_many frames lists are, lt) in

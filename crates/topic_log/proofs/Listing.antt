@@ -1,12 +1,21 @@
 -- The records of a file that is read at once.
 use Rattle.std.proofs.Common.{ℕ, ◌≡◌, ◌+◌, List, [], ◌∷◌, ◌++◌, length, drop, sym, ◌∙◌, ap, arith, append_assoc, length-append}
+use Rattle.std.specs.List.{AllByRecursion}
 use Rattle.std.proofs.lemmas.List.{drop_at}
 use Rattle.samza_model.specs.declared.messages.Record.{Record}
 use Rattle.samza_model.specs.Frames.{frame_bytes}
 use Rattle.samza_model.specs.Limits.{IsFrameable}
-use Rattle.samza_model.specs.Logs.{spelled}
-use Rattle.topic_log.specs.Lists.{HasRecords, ListedTo}
+use Rattle.samza_model.specs.Logs.{spelled, joined}
+use Rattle.topic_log.specs.Lists.{HasRecords}
 use Rattle.topic_log.proofs.Spelling.{spelled-push, joined-push, all_append}
+
+-- the records of the frames up to a gate
+pub record ListedTo (bytes : List ℕ) (gate : ℕ) (records : List Record) : Type 0 where
+  pub frames : List (List Record)
+  pub frameable : AllByRecursion IsFrameable frames
+  pub gate_is : gate ≡ length (spelled frames)
+  pub front : bytes ≡ spelled frames ++ drop gate bytes
+  pub records_are : records ≡ joined frames
 
 pub listed_more : (bytes : List ℕ) (gate used : ℕ) (records more : List Record) → ListedTo bytes gate records → HasRecords (drop gate bytes) more used → ListedTo bytes (gate + (1 + used)) (records ++ more)
 listed_more bytes gate used records more so_far batch =

@@ -7,13 +7,13 @@ use Rattle.samza_model.specs.declared.messages.Record.{Record}
 use Rattle.samza_model.specs.Files.{Image}
 use Rattle.samza_model.specs.Frames.{frame_bytes}
 use Rattle.samza_model.specs.Limits.{IsFrameable}
-use Rattle.samza_model.specs.Logs.{spelled, ReadsAs, HasFrames}
+use Rattle.samza_model.specs.Logs.{spelled, joined, ReadsAs, HasFrames}
 use Rattle.disk_model.specs.Images.{SameElsewhere, Only, LeavesOnly}
 use Rattle.disk_model.proofs.Moments.{started}
 use Rattle.log_frame.specs.Frame.{FrameView, AreFrames}
 use Rattle.topic_log.specs.declared.logs.Log.{Log}
 use Rattle.topic_log.specs.Moves.{Moves}
-use Rattle.topic_log.specs.Steps.{closed_frames, open_frames, staged, Opened, Stages}
+use Rattle.topic_log.specs.Steps.{closed_frames, record_count, open_frames, staged, Opened, Stages}
 use Rattle.topic_log.specs.Extents.{IsExtent}
 use Rattle.topic_log.specs.Opened.{file_of, IsOpen, Appends}
 use Rattle.topic_log.proofs.Moving.{weaken}
@@ -24,6 +24,13 @@ are_frameable [] [] are = tt
 are_frameable [] (l ∷ lists) are = absurd are
 are_frameable (f ∷ frames) [] are = absurd are
 are_frameable (f ∷ frames) (l ∷ lists) are = (are.0.frameable, are_frameable frames lists are.1)
+
+-- the frames have as many records as are joined
+pub are_counted : (frames : List FrameView) (lists : List (List Record)) → AreFrames frames lists → record_count frames ≡ length (joined lists)
+are_counted [] [] are = refl
+are_counted [] (l ∷ lists) are = absurd are
+are_counted (f ∷ frames) [] are = absurd are
+are_counted (f ∷ frames) (l ∷ lists) are = omega (arith, are.0.count_is, are_counted frames lists are.1, length-append l (joined lists))
 
 -- the frames' bytes behind an open gate, with all gates but the last open
 staged_to : (k : ℕ) (frames : List FrameView) (lists : List (List Record)) → length frames ≡ k + 1 → AreFrames frames lists
@@ -127,6 +134,19 @@ module _ (reads : Image) (images : Image → Type 0) (log : Log) (before : List 
     extent = extent;
     durable = subst (λ (f : ℕ). Only f new after) (sym same) only;
   }
+
+-- so many frames are some
+pub some_frames : (frames : List FrameView) → 1 ≤ length frames → frames ≢ []
+some_frames [] some = λ _. absurd (omega arith)
+some_frames (f ∷ frames) some = λ is. cc
+
+pub at_least_one : (frames : List FrameView) → frames ≢ [] → 1 ≤ length frames
+at_least_one [] some = absurd (some refl)
+at_least_one (f ∷ frames) some = omega arith
+
+pub no_frames : (frames : List FrameView) → length frames ≡ 0 → frames ≡ []
+no_frames [] none = refl
+no_frames (f ∷ frames) none = absurd (omega arith)
 
 -- an empty list of frames is that of no records
 pub are_none : (frames : List FrameView) (lists : List (List Record)) → length frames ≡ 0 → AreFrames frames lists → lists ≡ []

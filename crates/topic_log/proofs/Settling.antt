@@ -14,7 +14,7 @@ use Rattle.topic_log.specs.Damage.{IsDamage, IsDamagedAt}
 use Rattle.topic_log.specs.Extents.{IsExtent, IsLastOf}
 use Rattle.topic_log.specs.Moves.{Moves, Rests, Same}
 use Rattle.topic_log.specs.Opened.{IsLeft, IsOpen, KeepsFrames}
-use Rattle.topic_log.specs.Walks.{Shows, IsClosed, HasBatch, Reaches, WalkedTo, Finds, IsGate, LacksGate, Settled, Repairs}
+use Rattle.topic_log.specs.Walks.{Shows, IsClosed, HasBatch, Reaches, Finds, IsGate, LacksGate, Settled, Repairs}
 use Rattle.topic_log.proofs.Moving.{weaken, then_from, rests_then}
 use Rattle.topic_log.proofs.Extending.{Grows, extent_grown}
 use Rattle.topic_log.proofs.Spelling.{spelled-push, frames_unique, reads_front}
@@ -22,6 +22,12 @@ use Rattle.topic_log.proofs.Spelling.{spelled-push, frames_unique, reads_front}
 -- no frame
 pub extent_none : (e : Extent) → e.gate ≡ 0 → e.count ≡ 0 → e.last ≡ None → IsExtent e []
 extent_none e gate count last = record { frameable = tt; gate = gate; count = count; last = subst (λ (o : Option Place). IsLastOf o []) (sym last) refl }
+
+-- the frames that a walk has passed
+pub record WalkedTo (bytes : List ℕ) (extent : Extent) : Type 0 where
+  pub frames : List (List Record)
+  pub extent_is : IsExtent extent frames
+  pub front : bytes ≡ spelled frames ++ drop extent.gate bytes
 
 pub walked_none : (bytes : List ℕ) (e : Extent) → e.gate ≡ 0 → e.count ≡ 0 → e.last ≡ None → WalkedTo bytes e
 walked_none bytes e gate count last = record { frames = []; extent_is = extent_none e gate count last; front = ap (λ (n : ℕ). drop n bytes) (sym gate) }

@@ -6,7 +6,7 @@ use Rattle.samza_model.specs.Files.{Image}
 use Rattle.disk_model.specs.Images.{Written, TornWrite}
 use Rattle.log_frame.specs.Frame.{FrameView}
 use Rattle.topic_log.specs.Moves.{Moves, KeepsFront}
-use Rattle.topic_log.specs.Steps.{closed_frames, open_frames, Extended, OpensGates, HasClosed}
+use Rattle.topic_log.specs.Steps.{closed_frames, record_count, open_frames, Extended, OpensGates, HasClosed}
 use Rattle.topic_log.proofs.Moving.{then}
 use Rattle.topic_log.proofs.Bytes.{front_then, front_torn, written_end, written_at}
 
@@ -84,6 +84,17 @@ closed-more frames i f lt item =
     ap closed_frames (take_more frames i f lt ∙ ap (λ (g : FrameView). take i frames ++ g ∷ []) (sym item))
     ∙ flat_map-append (λ (g : FrameView). g.bytes ++ 0x43 ∷ []) (take i frames) (f ∷ [])
     ∙ ap (λ (l : List ℕ). closed_frames (take i frames) ++ l) (append-nil (f.bytes ++ 0x43 ∷ []))
+
+record_count-append : (a b : List FrameView) → record_count (a ++ b) ≡ record_count a + record_count b
+record_count-append [] b = omega arith
+record_count-append (f ∷ a) b = omega (arith, record_count-append a b)
+
+pub count-more : (frames : List FrameView) (i : ℕ) (f : FrameView) → i < length frames → f ≡ get_or frames i f → record_count (take (i + 1) frames) ≡ record_count (take i frames) + f.count
+count-more frames i f lt item =
+    let one : record_count (f ∷ []) ≡ f.count = omega arith in
+    ap record_count (take_more frames i f lt ∙ ap (λ (g : FrameView). take i frames ++ g ∷ []) (sym item))
+    ∙ record_count-append (take i frames) (f ∷ [])
+    ∙ ap (λ (n : ℕ). record_count (take i frames) + n) one
 
 pub open-more : (frames : List FrameView) (i : ℕ) (f : FrameView) → i < length frames → f ≡ get_or frames i f → open_frames (take (i + 1) frames) ≡ open_frames (take i frames) ++ (f.bytes ++ 0x4F ∷ [])
 open-more frames i f lt item =

@@ -7,8 +7,8 @@ use Rattle.samza_model.specs.Logs.{spelled, joined}
 use Rattle.topic_log.specs.declared.extents.Place.{Place}
 use Rattle.topic_log.specs.declared.extents.Extent.{Extent}
 
--- the place behind these first frames
-pub record IsPlace (frames before : List (List Record)) (place : Place) : Type 0 where
+-- the place stands behind these first frames
+pub record StandsBehind (frames before : List (List Record)) (place : Place) : Type 0 where
   pub behind : List (List Record)
   pub front : frames ≡ before ++ behind
   pub byte : place.byte ≡ length (spelled before)
@@ -19,8 +19,7 @@ pub record IsLast (frames : List (List Record)) (place : Place) : Type 0 where
   pub before : List (List Record)
   pub batch : List Record
   pub front : frames ≡ before ++ batch ∷ []
-  pub byte : place.byte ≡ length (spelled before)
-  pub index : place.index ≡ length (joined before)
+  pub stands : StandsBehind frames before place
 
 -- the same, and no place where there is no frame
 abbrev pub IsLastOf : Option Place → List (List Record) → Type 0

@@ -2,6 +2,7 @@ pub mod Batches
 pub mod Damage
 pub mod Extents
 pub mod Faults
+pub mod Growth
 pub mod Lists
 pub mod Moves
 pub mod Opened

@@ -1,10 +1,8 @@
 -- The records of a file that is read at once.
-use Rattle.std.specs.Prelude.{ℕ, ◌≡◌, List, ◌∷◌, ◌++◌, length, drop, Option, Some, None}
-use Rattle.std.specs.List.{AllByRecursion}
+use Rattle.std.specs.Prelude.{ℕ, ◌≡◌, List, ◌∷◌, ◌++◌, length, Option, Some, None}
 use Rattle.samza_model.specs.declared.messages.Record.{Record}
 use Rattle.samza_model.specs.Frames.{frame_bytes}
 use Rattle.samza_model.specs.Limits.{IsFrameable}
-use Rattle.samza_model.specs.Logs.{spelled, joined}
 use Rattle.log_frame.specs.declared.decoding.Decoded.{Decoded}
 use Rattle.topic_log.specs.Walks.{IsClosed}
 
@@ -18,11 +16,3 @@ pub record HasRecords (bytes : List ℕ) (records : List Record) (used : ℕ) : 
 abbrev pub IsListed : Option Decoded → List ℕ → Type 0
 IsListed None bytes = IsClosed bytes
 IsListed (Some d) bytes = HasRecords bytes d.records d.used
-
--- the records of the frames up to a gate
-pub record ListedTo (bytes : List ℕ) (gate : ℕ) (records : List Record) : Type 0 where
-  pub frames : List (List Record)
-  pub frameable : AllByRecursion IsFrameable frames
-  pub gate_is : gate ≡ length (spelled frames)
-  pub front : bytes ≡ spelled frames ++ drop gate bytes
-  pub records_are : records ≡ joined frames

@@ -1,10 +1,10 @@
 -- One record that is appended to a file, in a frame of its own.
-use Rattle.std.specs.Prelude.{ℕ, ◌≡◌, ◌<◌, ◌+◌, ◌^◌, ◌⊎◌, List, [], ◌∷◌, ◌++◌, length}
+use Rattle.std.specs.Prelude.{ℕ, ◌≡◌, ◌⊎◌, List, [], ◌∷◌, ◌++◌, length}
 use Rattle.samza_model.specs.declared.messages.Record.{Record}
 use Rattle.samza_model.specs.Files.{Image}
-use Rattle.samza_model.specs.Frames.{frame_bytes}
-use Rattle.samza_model.specs.Logs.{spelled, joined, HasFrames, HasNoLog}
+use Rattle.samza_model.specs.Logs.{joined, HasFrames, HasNoLog}
 use Rattle.disk_model.specs.Images.{SameElsewhere}
+use Rattle.topic_log.specs.Growth.{Passes}
 
 -- behind the frames that it had, the file has one of this record, whose offset is the number of records before it
 pub record IsProduced (before after : List ℕ) (body : Record) (offset : ℕ) : Type 0 where
@@ -20,8 +20,6 @@ pub record Produces (file : ℕ) (body : Record) (old new : Image) : Type 0 wher
   pub lost : HasNoLog (old file) → new file ≡ old file
   pub elsewhere : SameElsewhere file old new
 
--- with a frame of this record the file would pass 2^40 bytes
-pub record IsFull (bytes : List ℕ) (body : Record) : Type 0 where
-  pub frames : List (List Record)
-  pub has : HasFrames bytes frames
-  pub passes : 2 ^ 40 < length (spelled frames) + length (frame_bytes (body ∷ [])) + 2
+-- with a frame of this record the file would pass its limit
+abbrev pub IsFull : List ℕ → Record → Type 0
+IsFull bytes body = Passes bytes ((body ∷ []) ∷ [])

@@ -9,6 +9,11 @@ use Rattle.log_frame.specs.Frame.{FrameView}
 abbrev pub closed_frames : List FrameView → List ℕ
 closed_frames frames = flat_map (λ f. f.bytes ++ 0x43 ∷ []) frames
 
+-- how many records the frames have
+abbrev pub record_count : List FrameView → ℕ
+record_count [] = 0
+record_count (f ∷ frames) = f.count + record_count frames
+
 -- frames, each with an open gate behind it
 abbrev pub open_frames : List FrameView → List ℕ
 open_frames frames = flat_map (λ f. f.bytes ++ 0x4F ∷ []) frames

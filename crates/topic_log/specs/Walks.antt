@@ -1,8 +1,8 @@
 -- What is seen of a file that is read in pieces.
-use Rattle.std.specs.Prelude.{ℕ, ◌≡◌, ◌≢◌, ◌+◌, ◌≤◌, ◌⊎◌, List, [], ◌∷◌, ◌++◌, length, take, drop, Option, Some, None}
+use Rattle.std.specs.Prelude.{ℕ, ◌≡◌, ◌≢◌, ◌+◌, ◌≤◌, ◌⊎◌, List, [], ◌∷◌, length, take, drop, Option, Some, None}
 use Rattle.samza_model.specs.declared.messages.Record.{Record}
 use Rattle.samza_model.specs.Files.{Image}
-use Rattle.samza_model.specs.Logs.{spelled, ReadsAs}
+use Rattle.samza_model.specs.Logs.{ReadsAs}
 use Rattle.disk_model.specs.Images.{SameElsewhere}
 use Rattle.log_frame.specs.declared.reading.Checked.{Checked}
 use Rattle.log_frame.specs.Frame.{Begins}
@@ -42,12 +42,6 @@ pub record Reaches (bytes : List ℕ) (extent : Extent) : Type 0 where
   pub frames : List (List Record)
   pub reads : ReadsAs bytes frames
   pub extent_is : IsExtent extent frames
-
--- the frames that a walk has passed
-pub record WalkedTo (bytes : List ℕ) (extent : Extent) : Type 0 where
-  pub frames : List (List Record)
-  pub extent_is : IsExtent extent frames
-  pub front : bytes ≡ spelled frames ++ drop extent.gate bytes
 
 -- how far the frames of a file reach, which may be empty
 abbrev pub Finds : List ℕ → Extent → Type 0

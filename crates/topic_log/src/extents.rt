@@ -1,8 +1,10 @@
 // How far a log reaches.
 ghost use Rattle.std.specs.Prelude.{◌≡◌, ◌+◌, ◌^◌, ◌<◌, ◌≤◌, ◌++◌, List, length, IfSome, MatchOption};
+ghost use Rattle.std.specs.Option.{ForSome, ForNone};
 ghost use Rattle.samza_model.specs.declared.messages.Record.{Record};
 
 use log_frame::Frame;
+use samza_model::FILE_LIMIT;
 
 /// A place between two batches of a log.
 #[derive(Clone, Copy, Debug, PartialEq, Eq)]
@@ -24,15 +26,16 @@ pub(crate) struct Extent {
     pub(crate) last: Option<Place>,
     ghost small: { gate < 2 ^ 62 },
     ghost counted: { count ≤ gate },
+    // the last frame begins before the gate, and where there is none there are no records
+    ghost ends: { ForSome last (λ place. place.byte < gate) },
+    ghost empty: { ForNone last (count ≡ 0) },
 }
-
-/// The greatest size of a log's file.
-const LIMIT: u64 = 1 << 40;
 
 impl Extent {
     ghost use Rattle.log_frame.specs.Frame.{AreFrames};
     ghost use Rattle.topic_log.specs.Extents.{IsExtent};
-    ghost use Rattle.topic_log.specs.Steps.{closed_frames};
+    ghost use Rattle.topic_log.specs.Growth.{HasRoom, LacksRoom};
+    ghost use Rattle.topic_log.specs.Steps.{closed_frames, record_count};
 
     /// No frame.
     pub(crate) fn start() -> Extent
@@ -65,20 +68,24 @@ impl Extent {
         }
     }
 
-    /// These frames more, each with a gate behind it. `None` where the file would pass its greatest size.
+    /// These frames more, each with a gate behind it. `None` where there are some and the file would pass its greatest size.
     pub(crate) fn behind(self, frames: &[Frame]) -> Option<Extent>
-        ensures limit { MatchOption result (2 ^ 40 < self.gate + 1 + length (closed_frames frames.now)) (λ _. self.gate + 1 + length (closed_frames frames.now) ≤ 2 ^ 40) }
+        ensures limit { MatchOption result (LacksRoom (self.gate + 1) frames.now) (λ _. HasRoom (self.gate + 1) frames.now) }
+        ensures count { IfSome result (λ e. e.count ≡ self.count + record_count frames.now) }
         ensures gate { IfSome result (λ e. e.gate ≡ self.gate + length (closed_frames frames.now)) }
         ensures frames { IfSome result (λ e. (before lists : List (List Record)) → IsExtent self before → AreFrames frames.now lists → IsExtent e (before ++ lists)) }
     {
+        if frames.is_empty() {
+            return Some(self);
+        }
         let mut extent = self;
         for frame in frames {
-            if LIMIT < extent.gate + 1 {
+            if FILE_LIMIT < extent.gate + 1 {
                 return None;
             }
             extent = extent.grown(frame.bytes().len() as u64, frame.count() as u64);
         }
-        if LIMIT < extent.gate + 1 {
+        if FILE_LIMIT < extent.gate + 1 {
             return None;
         }
         Some(extent)

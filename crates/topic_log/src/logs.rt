@@ -1,16 +1,17 @@
 // A log of one file.
-ghost use Rattle.std.specs.Prelude.{◌≡◌, ◌≢◌, ◌+◌, ◌^◌, ◌<◌, ◌≤◌, ◌⊎◌, ◌↔◌, ◌++◌, ◌∷◌, [], ℕ, true, false, List, length, IsTrue, IfOk, IfErr, IfSome, MatchOption, OnOk, OnErr};
+ghost use Rattle.std.specs.Prelude.{◌≡◌, ◌≢◌, ◌+◌, ◌^◌, ◌<◌, ◌≤◌, ◌⊎◌, ◌↔◌, ◌++◌, ◌∷◌, [], ℕ, true, false, List, Ok, None, length, IsTrue, IfOk, IfErr, IfSome, MatchOption, OnOk, OnErr};
 ghost use Rattle.std.specs.List.{AllByRecursion};
 ghost use Rattle.samza_model.specs.declared.messages.Record.{Record};
 ghost use Rattle.samza_model.specs.Counters.{Rose};
-ghost use Rattle.samza_model.specs.Limits.{IsWithinLimits};
+ghost use Rattle.samza_model.specs.Limits.{IsWithinLimits, file_limit};
 ghost use Rattle.samza_model.specs.Logs.{joined, HasFrames, HasNoLog};
 ghost use Rattle.disk_model.specs.Images.{SameElsewhere, Keeps, LeavesOnly};
 ghost use Rattle.log_frame.specs.Frame.{IsFrame, AreFrames};
 ghost use Rattle.topic_log.specs.Damage.{IsDamagedAt};
-ghost use Rattle.topic_log.specs.Extents.{IsPlace, IsLastOf};
+ghost use Rattle.topic_log.specs.Extents.{StandsBehind, IsLastOf};
 ghost use Rattle.topic_log.specs.Moves.{Same};
-ghost use Rattle.topic_log.specs.Steps.{closed_frames};
+ghost use Rattle.topic_log.specs.Growth.{HasRoom, LacksRoom};
+ghost use Rattle.topic_log.specs.Steps.{closed_frames, record_count};
 
 use crate::batches::read_frame;
 use crate::extents::Extent;
@@ -97,22 +98,25 @@ impl Log {
 
     /// The place before the first batch.
     pub fn start(&self) -> Place
-        ensures { (frames : List (List Record)) → IsPlace frames [] result }
+        ensures { (frames : List (List Record)) → StandsBehind frames [] result }
     {
         Place { byte: 0, index: 0 }
     }
 
     /// The place before the last batch, or `None` where the log has none.
     pub fn last(&self) -> Option<Place>
-        ensures { (frames : List (List Record)) → HasExtent self.now frames → IsLastOf result frames }
+        ensures last { (frames : List (List Record)) → HasExtent self.now frames → IsLastOf result frames }
+        // On every outside it is before the log's end, and where there is none there are no records.
+        ensures inside { MatchOption result (count_of self.now ≡ 0) (λ place. place.byte + 1 < size_of self.now) }
     {
         self.extent.last
     }
 
     /// The number of records that the log has once these frames are appended, or `None` where its file would pass 2^40
-    /// bytes.
+    /// bytes by them. No frames pass nothing.
     pub fn len_behind(&self, frames: &[Frame]) -> Option<u64>
-        ensures limit { MatchOption result (2 ^ 40 < size_of self.now + length (closed_frames frames.now)) (λ _. size_of self.now + length (closed_frames frames.now) ≤ 2 ^ 40) }
+        ensures limit { MatchOption result (LacksRoom (size_of self.now) frames.now) (λ _. HasRoom (size_of self.now) frames.now) }
+        ensures counted { IfSome result (λ n. n ≡ count_of self.now + record_count frames.now) }
         ensures count { IfSome result (λ n. (before lists : List (List Record)) → HasExtent self.now before → AreFrames frames.now lists → n ≡ length (joined (before ++ lists))) }
     {
         match self.extent.behind(frames) {
@@ -123,12 +127,13 @@ impl Log {
 
     /// Adds the records of all these frames, and answers the new number of records. An empty list makes no device call.
     ///
-    /// `Limit` comes before any device call where the file would pass 2^40 bytes. After `Device` the log is broken, and
+    /// `Limit` comes before any device call where the file would pass 2^40 bytes by these frames, and never for an empty list. After `Device` the log is broken, and
     /// answers `Broken` from then on.
     pub fn append_all<D: Disk>(&mut self, disk: &mut D, frames: &[Frame]) -> Result<u64, LogFault>
         requires { D.tells → is_broken self.old ≡ false → (before : List (List Record)) × IsOpen (D.reads disk.old) (D.images disk.old) self.old before }
 
         ensures count { IfOk result (λ n. n ≡ count_of self.new) }
+        ensures counted { IfOk result (λ n. n ≡ count_of self.old + record_count frames.now) }
         ensures file { file_of self.new ≡ file_of self.old }
 
         // The log has the frames before, followed by these, in every image.
@@ -144,9 +149,9 @@ impl Log {
         ensures others { D.tells → (log : Log) (frames : List (List Record)) → file_of log ≢ file_of self.old
             → IsOpen (D.reads disk.old) (D.images disk.old) log frames → IsOpen (D.reads disk.new) (D.images disk.new) log frames }
 
-        ensures ok { OnOk result ((is_broken self.old ≡ false) × (size_of self.old + length (closed_frames frames.now) ≤ 2 ^ 40)) }
+        ensures ok { OnOk result ((is_broken self.old ≡ false) × HasRoom (size_of self.old) frames.now) }
         ensures broken { IfErr result (λ e. (e ≡ LogFault.Broken) ↔ (is_broken self.old ≡ true)) }
-        ensures limit { IfErr result (λ e. (e ≡ LogFault.Limit) ↔ ((is_broken self.old ≡ false) × (2 ^ 40 < size_of self.old + length (closed_frames frames.now)))) }
+        ensures limit { IfErr result (λ e. (e ≡ LogFault.Limit) ↔ ((is_broken self.old ≡ false) × LacksRoom (size_of self.old) frames.now)) }
         ensures device { IfErr result (λ e. e ≡ LogFault.Device → Rose (D.fault_count disk.old) (D.fault_count disk.new)) }
         ensures never { IfErr result (λ e. ((at : ℕ) → e ≢ LogFault.Damaged at) × (e ≢ LogFault.NoMemory)) }
 
@@ -180,6 +185,7 @@ impl Log {
         requires { D.tells → is_broken self.old ≡ false → (before : List (List Record)) × IsOpen (D.reads disk.old) (D.images disk.old) self.old before }
 
         ensures count { IfOk result (λ n. n ≡ count_of self.new) }
+        ensures counted { IfOk result (λ n. n ≡ count_of self.old + frame.now.count) }
         ensures file { file_of self.new ≡ file_of self.old }
 
         // The log has the frames before, followed by this one, in every image.
@@ -194,9 +200,9 @@ impl Log {
         ensures others { D.tells → (log : Log) (frames : List (List Record)) → file_of log ≢ file_of self.old
             → IsOpen (D.reads disk.old) (D.images disk.old) log frames → IsOpen (D.reads disk.new) (D.images disk.new) log frames }
 
-        ensures ok { OnOk result ((is_broken self.old ≡ false) × (size_of self.old + length frame.now.bytes + 1 ≤ 2 ^ 40)) }
+        ensures ok { OnOk result ((is_broken self.old ≡ false) × (size_of self.old + length frame.now.bytes + 1 ≤ file_limit)) }
         ensures broken { IfErr result (λ e. (e ≡ LogFault.Broken) ↔ (is_broken self.old ≡ true)) }
-        ensures limit { IfErr result (λ e. (e ≡ LogFault.Limit) ↔ ((is_broken self.old ≡ false) × (2 ^ 40 < size_of self.old + length frame.now.bytes + 1))) }
+        ensures limit { IfErr result (λ e. (e ≡ LogFault.Limit) ↔ ((is_broken self.old ≡ false) × (file_limit < size_of self.old + length frame.now.bytes + 1))) }
         ensures device { IfErr result (λ e. e ≡ LogFault.Device → Rose (D.fault_count disk.old) (D.fault_count disk.new)) }
         ensures never { IfErr result (λ e. ((at : ℕ) → e ≢ LogFault.Damaged at) × (e ≢ LogFault.NoMemory)) }
 
@@ -225,6 +231,7 @@ impl Log {
         // The place behind is further on, and within the file; and the records are within the limits. Every disk gives that.
         ensures forward { IfOk result (λ o. IfSome o (λ b. (place.byte < b.1.byte) × (b.1.byte < size_of self.old))) }
         ensures limits { IfOk result (λ o. IfSome o (λ b. AllByRecursion IsWithinLimits b.0)) }
+        ensures end { result ≡ Ok None → size_of self.old ≤ place.byte + 1 }
 
         // Nothing changes on the disk, and the logs stay open.
         ensures reads { D.tells → D.reads disk.new ≡ D.reads disk.old }

@@ -7,7 +7,7 @@ ghost use Rattle.samza_model.specs.Logs.{HasNoLog};
 ghost use Rattle.disk_model.specs.Images.{SameElsewhere, Only, LeavesOnly};
 ghost use Rattle.topic_log.specs.declared.logs.Log.{Log as LogValue};
 ghost use Rattle.topic_log.specs.Damage.{IsDamagedAt};
-ghost use Rattle.topic_log.specs.Opened.{file_of, IsOpen};
+ghost use Rattle.topic_log.specs.Opened.{file_of, IsOpen, KeepsFrames};
 ghost use Rattle.topic_log.specs.Producing.{IsProduced, Produces, IsFull};
 
 use crate::{Log, LogFault};
@@ -41,6 +41,9 @@ pub fn produce_one<D: Disk>(
     ensures others { D.tells → (log : LogValue) (frames : List (List RecordValue)) → file_of log ≢ file
         → IsOpen (D.reads disk.old) (D.images disk.old) log frames → IsOpen (D.reads disk.new) (D.images disk.new) log frames }
 
+    // After a refusal, but for `Device`, the file has the frames that it had, in what a read gives and in every image since.
+    ensures refused { IfErr result (λ e. e ≢ LogFault.Device → D.tells → KeepsFrames file (D.reads disk.old) (D.reads disk.new)) }
+    ensures refused_images { IfErr result (λ e. e ≢ LogFault.Device → D.tells → LeavesOnly D.call_number D.images D.images_since disk.old disk.new (KeepsFrames file)) }
     ensures untouched { IfErr result (λ e. (at : ℕ) → e ≡ LogFault.Damaged at → D.tells → D.reads disk.new ≡ D.reads disk.old) }
     ensures damaged { IfErr result (λ e. (at : ℕ) → e ≡ LogFault.Damaged at → D.tells → IsDamagedAt (D.reads disk.old file) at × HasNoLog (D.reads disk.old file)) }
     ensures limit { IfErr result (λ e. e ≡ LogFault.Limit → D.tells → IsFull (D.reads disk.old file) body.now) }

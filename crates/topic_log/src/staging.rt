@@ -1,6 +1,7 @@
 // Frames put behind a log's last gate, as bytes. What is written counts only when that gate is opened, at the end.
 ghost use Rattle.std.specs.Prelude.{◌≡◌, ◌+◌, ◌^◌, ◌≤◌, length, IfErr, OnOk, OnErr};
 ghost use Rattle.samza_model.specs.Counters.{Rose};
+ghost use Rattle.samza_model.specs.Limits.{file_limit};
 ghost use Rattle.disk_model.specs.Images.{Only};
 ghost use Rattle.topic_log.specs.Moves.{Moves, KeepsFront};
 ghost use Rattle.topic_log.specs.Steps.{closed_frames, staged, Extended, Opened, OpensGates, HasClosed, Stages};
@@ -15,7 +16,7 @@ const OPEN: [u8; 1] = [0x4F];
 /// Writes the frames at the file's end, each with a closed gate behind it.
 fn write_frames<D: Disk>(disk: &mut D, file: u32, at: u64, frames: &[Frame]) -> Result<(), LogFault>
     requires at { D.tells → at ≡ length (D.reads disk.old file) }
-    requires small { at + length (closed_frames frames.now) ≤ 2 ^ 40 }
+    requires small { at + length (closed_frames frames.now) ≤ file_limit }
     ensures written { OnOk result (D.tells → Extended file (closed_frames frames.now) (D.reads disk.old) (D.reads disk.new)) }
     ensures moves { D.tells → Moves D.reads D.call_number D.images D.images_since disk.old disk.new (KeepsFront file at) }
     ensures fault { IfErr result (λ e. e ≡ LogFault.Device) }
@@ -36,7 +37,7 @@ fn write_frames<D: Disk>(disk: &mut D, file: u32, at: u64, frames: &[Frame]) -> 
 fn open_gates<D: Disk>(disk: &mut D, file: u32, at: u64, frames: &[Frame]) -> Result<(), LogFault>
     requires closed { D.tells → HasClosed at frames.now (D.reads disk.old file) }
     requires inside { D.tells → at ≤ length (D.reads disk.old file) }
-    requires small { at + length (closed_frames frames.now) ≤ 2 ^ 40 }
+    requires small { at + length (closed_frames frames.now) ≤ file_limit }
     ensures opened { OnOk result (D.tells → OpensGates file at frames.now (D.reads disk.old) (D.reads disk.new)) }
     ensures moves { D.tells → Moves D.reads D.call_number D.images D.images_since disk.old disk.new (KeepsFront file at) }
     ensures fault { IfErr result (λ e. e ≡ LogFault.Device) }
@@ -57,7 +58,7 @@ fn open_gates<D: Disk>(disk: &mut D, file: u32, at: u64, frames: &[Frame]) -> Re
 fn stage<D: Disk>(disk: &mut D, file: u32, at: u64, frames: &[Frame]) -> Result<(), LogFault>
     requires some { 1 ≤ length frames.now }
     requires at { D.tells → at ≡ length (D.reads disk.old file) }
-    requires small { at + length (closed_frames frames.now) ≤ 2 ^ 40 }
+    requires small { at + length (closed_frames frames.now) ≤ file_limit }
     ensures written { OnOk result (D.tells → Extended file (staged frames.now) (D.reads disk.old) (D.reads disk.new)) }
     ensures durable { OnOk result (D.tells → Only file (D.reads disk.new) (D.images disk.new)) }
     ensures moves { D.tells → Moves D.reads D.call_number D.images D.images_since disk.old disk.new (KeepsFront file at) }
@@ -82,7 +83,7 @@ pub(crate) fn put_behind<D: Disk>(
     requires some { 1 ≤ length frames.now }
     requires gate { D.tells → length (D.reads disk.old file) ≡ gate + 1 }
     requires durable { D.tells → Only file (D.reads disk.old) (D.images disk.old) }
-    requires small { gate + 1 + length (closed_frames frames.now) ≤ 2 ^ 40 }
+    requires small { gate + 1 + length (closed_frames frames.now) ≤ file_limit }
     ensures opened { OnOk result (D.tells → Opened file gate (staged frames.now) (D.reads disk.old) (D.reads disk.new)) }
     ensures durable { OnOk result (D.tells → Only file (D.reads disk.new) (D.images disk.new)) }
     ensures moves { D.tells → Moves D.reads D.call_number D.images D.images_since disk.old disk.new (Stages file gate (staged frames.now)) }

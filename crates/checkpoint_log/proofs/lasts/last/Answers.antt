@@ -1,4 +1,4 @@
-use Rattle.std.proofs.Common.{◌≡◌, List, Option, sym, ◌∙◌, ap, subst, arith}
+use Rattle.std.proofs.Common.{◌≡◌, List, Option, Ok, sym, ◌∙◌, ap, subst, arith}
 use Rattle.samza_model.specs.declared.messages.Record.{Record}
 use Rattle.topic_log.specs.declared.extents.Place.{Place}
 use Rattle.topic_log.specs.Batches.{IsNext}
@@ -10,23 +10,29 @@ use Rattle.checkpoint_log.proofs.lasts.last.Goals as goal
 pub batch-requires-after_bounds : goal.batch-requires-after_bounds
 batch-requires-after_bounds g c κs within = λ told whole.
     let p = c.requires.opened told whole in
-    let end = c.end_of-place.ensures p.0 p.1.extent in
+    let end = c.end_of-place.ensures.end p.0 p.1.extent in
     (p.0, (before_of p.0 c.end_of-place.result end, has_place (g.D.Disk.reads c.args.disk.now) (g.D.Disk.images c.args.disk.now) c.args.log.now p.0 p.1 c.end_of-place.result end))
 
 pub returns-in-None-clause-last : goal.returns-in-None-clause-last
 returns-in-None-clause-last g c = λ told frames h.
     let reads = g.D.Disk.reads c.args.disk.now in
     let images = g.D.Disk.images c.args.disk.now in
-    let end = c.end_of-place.ensures frames h.extent in
+    let end = c.end_of-place.ensures.end frames h.extent in
     let before = before_of frames c.end_of-place.result end in
     let next = c.in-Ok.ensures.batch told frames before (has_place reads images c.args.log.now frames h c.end_of-place.result end) in
     none_at_end reads images c.args.log.now frames h c.end_of-place.result end (subst (λ (o : Option (List Record × Place)). IsNext frames before o) c.in-None.is next)
+
+pub returns-in-None-clause-counted : goal.returns-in-None-clause-counted
+returns-in-None-clause-counted g c = sym (c.end_of-place.ensures.empty (c.in-Ok.ensures.end (ap (λ (o : Option (List Record × Place)). Ok o) c.in-None.is)))
+
+pub returns-in-Ok-checkpoint_in-clause-counted : goal.returns-in-Ok-checkpoint_in-clause-counted
+returns-in-Ok-checkpoint_in-clause-counted g c = c.in-Ok-checkpoint_in.ensures.found.id ∙ c.len.ensures.count ∙ ap count_of c.in-Ok.ensures.ok.1
 
 pub returns-in-Ok-checkpoint_in-clause-last : goal.returns-in-Ok-checkpoint_in-clause-last
 returns-in-Ok-checkpoint_in-clause-last g c = λ told frames h.
     let reads = g.D.Disk.reads c.args.disk.now in
     let images = g.D.Disk.images c.args.disk.now in
-    let end = c.end_of-place.ensures frames h.extent in
+    let end = c.end_of-place.ensures.end frames h.extent in
     let before = before_of frames c.end_of-place.result end in
     let next = c.in-Ok.ensures.batch told frames before (has_place reads images c.args.log.now frames h c.end_of-place.result end) in
     let l = last_at_end frames c.end_of-place.result end c.in-Some.batch.0 c.in-Some.batch.1 (subst (λ (o : Option (List Record × Place)). IsNext frames before o) c.in-Some.is next) in
@@ -37,7 +43,7 @@ pub returns-in-Err-Bad-clause-damaged : goal.returns-in-Err-Bad-clause-damaged
 returns-in-Err-Bad-clause-damaged g c = λ at is told frames h.
     let reads = g.D.Disk.reads c.args.disk.now in
     let images = g.D.Disk.images c.args.disk.now in
-    let end = c.end_of-place.ensures frames h.extent in
+    let end = c.end_of-place.ensures.end frames h.extent in
     let before = before_of frames c.end_of-place.result end in
     let next = c.in-Ok.ensures.batch told frames before (has_place reads images c.args.log.now frames h c.end_of-place.result end) in
     let l = last_at_end frames c.end_of-place.result end c.in-Some.batch.0 c.in-Some.batch.1 (subst (λ (o : Option (List Record × Place)). IsNext frames before o) c.in-Some.is next) in

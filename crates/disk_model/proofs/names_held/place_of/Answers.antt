@@ -1,7 +1,7 @@
 use Rattle.std.proofs.Common.{◌≡◌, ◌≢◌, ◌∙◌, ◌<◌, length, true, false, arith, below_more}
 use Rattle.std.proofs.lemmas.Bool.{both_ways}
 use Rattle.disk_model.proofs.ByName.{first_is, named_read, not_same, not_there, then_same}
-use Rattle.disk_model.specs.Slots.{named_at}
+use Rattle.disk_model.proofs.ByName.{named_at}
 use Rattle.disk_model.proofs.names_held.place_of.Goals as goal
 
 pub returns-then-same : goal.returns-then-same

@@ -2,7 +2,7 @@ use Rattle.std.proofs.Common.{◌≡◌, option_copied}
 use Rattle.std.specs.List.{list_all}
 use Rattle.samza_model.specs.Names.{is_topic}
 use Rattle.job_config.specs.Lists.{entries_of}
-use Rattle.job_config.specs.Parts.{entries_left, size_left}
+use Rattle.job_config.proofs.Entries.{entries_left, size_left}
 use Rattle.job_config.proofs.lists.are_topics.Given as goal
 
 abbrev pub invariant-loop-rest : goal.invariant-loop-rest

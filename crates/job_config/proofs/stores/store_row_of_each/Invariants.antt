@@ -1,6 +1,7 @@
 use Rattle.std.proofs.Common.{◌≡◌}
 use Rattle.std.specs.Vec.Iter.{into_iter_items}
-use Rattle.job_config.specs.Asking.{each, with_front}
+use Rattle.job_config.specs.Asking.{each}
+use Rattle.job_config.proofs.Each.{with_front}
 use Rattle.job_config.specs.Stores.{store_row}
 use Rattle.job_config.proofs.stores.store_row_of_each.Given as goal
 

@@ -1,6 +1,7 @@
 use Rattle.std.proofs.Common.{◌≡◌}
 use Rattle.std.specs.Vec.Iter.{into_iter_items}
-use Rattle.job_config.specs.Asking.{each, with_front}
+use Rattle.job_config.specs.Asking.{each}
+use Rattle.job_config.proofs.Each.{with_front}
 use Rattle.job_config.specs.Streams.{stream_row}
 use Rattle.job_config.proofs.streams.stream_row_of_each.Given as goal
 

@@ -1,11 +1,13 @@
-use Rattle.std.proofs.Common.{rules, sym, subst, ◌∙◌}
+use Rattle.std.proofs.Common.{sym, subst, ◌∙◌}
 use Rattle.std.specs.FinMap.{get}
-use Rattle.job_config.specs.declared.keys.Setting.TheVariants.{Inputs, Outputs}
+use Rattle.job_config.specs.declared.keys.Setting.TheVariants.{JobName, Inputs, Outputs}
 use Rattle.job_config.specs.Bounds.{AreRising, AreTopics}
 use Rattle.job_config.specs.Keys.{text_of}
+use Rattle.job_config.specs.Values.{job_name}
 use Rattle.job_config.specs.Lists.{inputs, outputs}
-use Rattle.job_config.proofs.Kept.{stores_are, stores_rise, inputs_named}
-use Rattle.job_config.proofs.Limits.{table_by_limits, by_limits}
+use Rattle.job_config.proofs.Kept.{stores_are, stores_rise, inputs_named, inputs_rank}
+use Rattle.job_config.proofs.Limits.{limits_within}
+use Rattle.job_config.proofs.Within.{job_named}
 use Rattle.job_config.proofs.Once.{outputs_distinct}
 use Rattle.job_config.proofs.Rising.{inputs_rise}
 use Rattle.job_config.proofs.Topics.{inputs_are, outputs_are}
@@ -20,23 +22,22 @@ returns-clause-bounded c =
     let listed = inputs_are 16 (get p (text_of Inputs)) c.in_ok-names.names input_row in
     let names = c.as_slice-2.result.now in
     let named = inputs_named p names c.limit_rows.new.asked.items (c.in_ok-inputs.inputs, c.stream_rows.new.asked.items) (subst (AreTopics 16) (sym c.as_slice-2.ensures) listed).each c.in_ok-inputs.ensures in
+    let job_row = row_gave p (text_of JobName) job_name c.args.asked.now.items (c.in_ok-job.job, c.job_name.new.asked.items) c.in_ok-job.ensures in
+    let limits = limits_within p c.store_rows.new.asked.items (c.in_ok-limits.limits, c.limit_rows.new.asked.items) c.in_ok-limits.ensures in
     record {
+      job = job_named (get p (text_of JobName)) c.in_ok-job.job job_row;
       inputs = subst (AreTopics 16) (sym (named ∙ c.as_slice-2.ensures)) listed;
       outputs = outputs_are 8 (get p (text_of Outputs)) c.in_ok-outputs.outputs output_row;
       stores = stores_are p c.class_row.new.asked.items (c.in_ok-stores.stores, c.store_rows.new.asked.items) c.in_ok-stores.ensures;
       inputs_rise = subst AreRising (sym (named ∙ c.as_slice-2.ensures)) (inputs_rise 16 (get p (text_of Inputs)) c.in_ok-names.names input_row);
       outputs_distinct = outputs_distinct 8 (get p (text_of Outputs)) c.in_ok-outputs.outputs output_row;
       stores_rise = stores_rise p c.class_row.new.asked.items (c.in_ok-stores.stores, c.store_rows.new.asked.items) c.in_ok-stores.ensures;
+      priorities = inputs_rank p names c.limit_rows.new.asked.items (c.in_ok-inputs.inputs, c.stream_rows.new.asked.items) c.in_ok-inputs.ensures;
+      containers = limits.containers;
+      workers = limits.workers.1;
+      concurrency = limits.concurrency;
+      batch = limits.batch;
+      window = limits.window;
+      commit = limits.commit;
+      timeout = tt;
     }
-
-pub returns-in_err-limits-clause-rows : goal.returns-in_err-limits-clause-rows
-unfolding table_by_limits
-returns-in_err-limits-clause-rows c = rw (← by_limits c.args.pairs.now c.args.asked.now.items) (search rules)
-
-pub returns-in_err-inputs-clause-rows : goal.returns-in_err-inputs-clause-rows
-unfolding table_by_limits
-returns-in_err-inputs-clause-rows c = rw (← by_limits c.args.pairs.now c.args.asked.now.items) (search rules)
-
-pub returns-clause-rows : goal.returns-clause-rows
-unfolding table_by_limits
-returns-clause-rows c = rw (← by_limits c.args.pairs.now c.args.asked.now.items) (search rules)

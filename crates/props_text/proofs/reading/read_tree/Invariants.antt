@@ -3,7 +3,7 @@ use Rattle.std.specs.FinMap.{entries}
 use Rattle.props_text.specs.Logical.{logical_lines}
 use Rattle.props_text.specs.Pairs.{Props, pairs_onto, props_of}
 use Rattle.props_text.specs.Sorted.{entries_of}
-use Rattle.props_text.specs.Steps.{lines_left, size_left}
+use Rattle.props_text.proofs.Takes.{lines_left, size_left}
 use Rattle.props_text.proofs.reading.read_tree.Given as goal
 
 abbrev pub invariant-loop-rest : goal.invariant-loop-rest

@@ -1,5 +1,5 @@
 use Rattle.std.proofs.Common.{◌≡◌, take}
-use Rattle.restore_trim.specs.Naming.{mark_names, setup_names}
+use Rattle.samza_model.specs.Restored.{mark_names, setup_names}
 use Rattle.restore_trim.proofs.naming.same_stores.Given as goal
 
 abbrev pub invariant-loop-i : goal.invariant-loop-i

@@ -1,9 +1,9 @@
 use Rattle.std.proofs.Common.{◌∙◌, ap, sym, subst, Ok}
-use Rattle.checkpoint_log.specs.Ends.{EndsAs}
-use Rattle.samza_model.specs.Files.{checkpoint_file}
+use Rattle.samza_model.specs.Restored.{EndsAs}
+use Rattle.samza_model.specs.Files.{Image, checkpoint_file}
 use Rattle.restore_trim.specs.Standing.{IsOpenAt, HoldsMark}
 use Rattle.restore_trim.proofs.Openings.{has_mark}
-use Rattle.restore_trim.proofs.Tails.{grows_read, grows_then}
+use Rattle.restore_trim.proofs.Tails.{keeps_read}
 use Rattle.restore_trim.proofs.Telling.{opening_tells, tells_mark}
 use Rattle.restore_trim.proofs.opening.open_marks.Goals as goal
 
@@ -38,8 +38,7 @@ returns-in-Err-last-clause-any_moment g c = λ told.
     let law = (g.met.D.Disk g.world.𝓛 g.world.𝓜 g.world.𝓡 ((λ s x. x), (λ x. x), (λ x. x), λ x. x)) in
     let d0 = c.args.disk.now in
     let d1 = c.open_file.new.disk in
-    grows_then disk.reads disk.call_number disk.images disk.images_since d0 d1 c.last.new.disk (λ k f le left. law.counts_now d1 k f told le left) (c.open_file.ensures.any_moment told)
-    (grows_read disk.reads disk.call_number disk.images disk.images_since d1 c.last.new.disk (c.last.ensures.rests told))
+    keeps_read disk.reads disk.call_number disk.images disk.images_since d0 d1 c.last.new.disk checkpoint_file (λ k f le left. law.counts_now d1 k f told le left) (c.open_file.ensures.any_moment told) (c.last.ensures.rests told)
 
 pub returns-in-Ok-true-clause-any_moment : goal.returns-in-Ok-true-clause-any_moment
 returns-in-Ok-true-clause-any_moment g c = λ told.
@@ -47,8 +46,7 @@ returns-in-Ok-true-clause-any_moment g c = λ told.
     let law = (g.met.D.Disk g.world.𝓛 g.world.𝓜 g.world.𝓡 ((λ s x. x), (λ x. x), (λ x. x), λ x. x)) in
     let d0 = c.args.disk.now in
     let d1 = c.open_file.new.disk in
-    grows_then disk.reads disk.call_number disk.images disk.images_since d0 d1 c.last.new.disk (λ k f le left. law.counts_now d1 k f told le left) (c.open_file.ensures.any_moment told)
-    (grows_read disk.reads disk.call_number disk.images disk.images_since d1 c.last.new.disk (c.last.ensures.rests told))
+    keeps_read disk.reads disk.call_number disk.images disk.images_since d0 d1 c.last.new.disk checkpoint_file (λ k f le left. law.counts_now d1 k f told le left) (c.open_file.ensures.any_moment told) (c.last.ensures.rests told)
 
 pub returns-in-Ok-false-clause-any_moment : goal.returns-in-Ok-false-clause-any_moment
 returns-in-Ok-false-clause-any_moment g c = λ told.
@@ -56,8 +54,7 @@ returns-in-Ok-false-clause-any_moment g c = λ told.
     let law = (g.met.D.Disk g.world.𝓛 g.world.𝓜 g.world.𝓡 ((λ s x. x), (λ x. x), (λ x. x), λ x. x)) in
     let d0 = c.args.disk.now in
     let d1 = c.open_file.new.disk in
-    grows_then disk.reads disk.call_number disk.images disk.images_since d0 d1 c.last.new.disk (λ k f le left. law.counts_now d1 k f told le left) (c.open_file.ensures.any_moment told)
-    (grows_read disk.reads disk.call_number disk.images disk.images_since d1 c.last.new.disk (c.last.ensures.rests told))
+    keeps_read disk.reads disk.call_number disk.images disk.images_since d0 d1 c.last.new.disk checkpoint_file (λ k f le left. law.counts_now d1 k f told le left) (c.open_file.ensures.any_moment told) (c.last.ensures.rests told)
 
 pub returns-in-Err-named-clause-any_moment : goal.returns-in-Err-named-clause-any_moment
 returns-in-Err-named-clause-any_moment g c = λ told.
@@ -65,11 +62,22 @@ returns-in-Err-named-clause-any_moment g c = λ told.
     let law = (g.met.D.Disk g.world.𝓛 g.world.𝓜 g.world.𝓡 ((λ s x. x), (λ x. x), (λ x. x), λ x. x)) in
     let d0 = c.args.disk.now in
     let d1 = c.open_file.new.disk in
-    grows_then disk.reads disk.call_number disk.images disk.images_since d0 d1 c.last.new.disk (λ k f le left. law.counts_now d1 k f told le left) (c.open_file.ensures.any_moment told)
-    (grows_read disk.reads disk.call_number disk.images disk.images_since d1 c.last.new.disk (c.last.ensures.rests told))
+    keeps_read disk.reads disk.call_number disk.images disk.images_since d0 d1 c.last.new.disk checkpoint_file (λ k f le left. law.counts_now d1 k f told le left) (c.open_file.ensures.any_moment told) (c.last.ensures.rests told)
+
+pub returns-in-Err-clause-refused : goal.returns-in-Err-clause-refused
+returns-in-Err-clause-refused g c = λ other told f ne. ap (λ (i : Image). i f) (c.in-Err.ensures.refused other told)
+
+pub returns-in-Err-last-clause-refused : goal.returns-in-Err-last-clause-refused
+returns-in-Err-last-clause-refused g c = λ other told f ne. ap (λ (i : Image). i f) (c.last.ensures.reads told) ∙ c.in-Ok.ensures.elsewhere told f ne
+
+pub returns-in-Ok-false-clause-refused : goal.returns-in-Ok-false-clause-refused
+returns-in-Ok-false-clause-refused g c = λ other told f ne. ap (λ (i : Image). i f) (c.last.ensures.reads told) ∙ c.in-Ok.ensures.elsewhere told f ne
+
+pub returns-in-Err-named-clause-refused : goal.returns-in-Err-named-clause-refused
+returns-in-Err-named-clause-refused g c = λ other told f ne. ap (λ (i : Image). i f) (c.last.ensures.reads told) ∙ c.in-Ok.ensures.elsewhere told f ne
 
 pub returns-in-Err-clause-told : goal.returns-in-Err-clause-told
 returns-in-Err-clause-told g c = tells_mark c.in-Err.fault c.in-Err.ensures.told
 
 pub returns-in-Err-last-clause-told : goal.returns-in-Err-last-clause-told
-returns-in-Err-last-clause-told g c = tells_mark c.opening.result (opening_tells 0 c.in-Err-last.fault c.opening.result c.opening.ensures)
+returns-in-Err-last-clause-told g c = tells_mark c.opening.result (opening_tells 0 c.in-Err-last.fault c.opening.result c.opening.ensures c.in-Err-last.ensures.never_limit)

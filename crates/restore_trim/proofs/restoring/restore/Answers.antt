@@ -1,15 +1,17 @@
-use Rattle.std.proofs.Common.{ℕ, All, List, length, inl, inr, subst, sym}
+use Rattle.std.proofs.Common.{ℕ, ◌≤◌, All, List, length, inl, inr, subst, sym, arith}
 use Rattle.samza_model.specs.declared.setups.StoreSetup.{StoreSetup}
 use Rattle.samza_model.specs.Content.{Content}
 use Rattle.samza_model.specs.Files.{changelog_file, output_file}
 use Rattle.kv_store.specs.Tracked.{AreWithinLimits}
 use Rattle.topic_log.specs.declared.logs.Log.{Log}
+use Rattle.disk_model.specs.Images.{LeavesOnly}
+use Rattle.restore_trim.specs.Crashes.{KeepsOutputs, OpeningLeaves, TrimsFiles}
 use Rattle.restore_trim.specs.Refused.{StoresOpen, TellsStores, WhyNoStores, WhyNoOutputs}
 use Rattle.restore_trim.specs.Standing.{HoldsStores, HoldsOutputs, IsRestored, SameFrom, SameOutside}
-use Rattle.restore_trim.proofs.Others.{opened_others}
-use Rattle.restore_trim.proofs.Outcomes.{leaves_opening, restored_before, restored_now}
-use Rattle.restore_trim.proofs.Tails.{grows_then}
-use Rattle.restore_trim.proofs.Whole.{mark_whole, marked, opens_were, outputs_held, outputs_refused, outputs_whole, stores_refused, stores_whole}
+use Rattle.restore_trim.proofs.Others.{opened_others, stores_others}
+use Rattle.restore_trim.proofs.Outcomes.{marks_left, marks_stores_left, outputs_left, restored_before, restored_now}
+use Rattle.restore_trim.proofs.Tails.{read_left}
+use Rattle.restore_trim.proofs.Whole.{mark_whole, marked, opens_were, outputs_refused, outputs_whole, stores_refused, stores_whole}
 use Rattle.restore_trim.proofs.restoring.restore.Goals as goal
 
 pub returns-in-Err-open_stores-clause-why : goal.returns-in-Err-open_stores-clause-why
@@ -72,7 +74,9 @@ returns-clause-stands g c = λ told.
 pub returns-in-Err-clause-any_moment : goal.returns-in-Err-clause-any_moment
 returns-in-Err-clause-any_moment g c = λ told.
     let disk = g.D.Disk in
-    leaves_opening disk.call_number disk.images disk.images_since c.args.disk.now c.open_marks.new.disk c.args.setup.now (c.open_marks.ensures.any_moment told)
+    let s = c.args.setup.now in
+    let few : length s.stores ≤ 15 = omega (arith, c.requires.few_stores) in
+    marks_left disk.reads disk.call_number disk.images disk.images_since s few c.args.disk.now c.open_marks.new.disk (c.open_marks.ensures.any_moment told)
 
 pub returns-in-Err-open_stores-clause-any_moment : goal.returns-in-Err-open_stores-clause-any_moment
 returns-in-Err-open_stores-clause-any_moment g c = λ told.
@@ -81,8 +85,11 @@ returns-in-Err-open_stores-clause-any_moment g c = λ told.
     let d0 = c.args.disk.now in
     let d1 = c.open_marks.new.disk in
     let d2 = c.open_stores.new.disk in
-    leaves_opening disk.call_number disk.images disk.images_since d0 d2 c.args.setup.now
-    (grows_then disk.reads disk.call_number disk.images disk.images_since d0 d1 d2 (λ k f le left. law.counts_now d1 k f told le left) (c.open_marks.ensures.any_moment told) (c.open_stores.ensures.any_moment told))
+    let s = c.args.setup.now in
+    let few : length s.stores ≤ 15 = omega (arith, c.requires.few_stores) in
+    let stores = subst (λ (xs : List StoreSetup). LeavesOnly disk.call_number disk.images disk.images_since d1 d2 (TrimsFiles c.in-Ok.opened.1 (length xs))) c.as_slice.ensures (c.open_stores.ensures.any_moment told) in
+    let opened = marks_stores_left disk.reads disk.call_number disk.images disk.images_since s few d0 d1 d2 (disk.reads d0) c.in-Ok.opened.0 c.in-Ok.opened.1 (λ k f le left. law.counts_now d1 k f told le left) (c.in-Ok.ensures.mark told) (c.open_marks.ensures.any_moment told) stores in
+    opened
 
 pub returns-in-Err-open_outputs-clause-any_moment : goal.returns-in-Err-open_outputs-clause-any_moment
 returns-in-Err-open_outputs-clause-any_moment g c = λ told.
@@ -91,8 +98,13 @@ returns-in-Err-open_outputs-clause-any_moment g c = λ told.
     let d0 = c.args.disk.now in
     let d1 = c.open_marks.new.disk in
     let d2 = c.open_stores.new.disk in
-    leaves_opening disk.call_number disk.images disk.images_since d0 c.open_outputs.new.disk c.args.setup.now
-    (grows_then disk.reads disk.call_number disk.images disk.images_since d0 d2 c.open_outputs.new.disk (λ k f le left. law.counts_now d2 k f told le left) (grows_then disk.reads disk.call_number disk.images disk.images_since d0 d1 d2 (λ k f le left. law.counts_now d1 k f told le left) (c.open_marks.ensures.any_moment told) (c.open_stores.ensures.any_moment told)) (c.open_outputs.ensures.any_moment told))
+    let s = c.args.setup.now in
+    let few : length s.stores ≤ 15 = omega (arith, c.requires.few_stores) in
+    let stores = subst (λ (xs : List StoreSetup). LeavesOnly disk.call_number disk.images disk.images_since d1 d2 (TrimsFiles c.in-Ok.opened.1 (length xs))) c.as_slice.ensures (c.open_stores.ensures.any_moment told) in
+    let opened = marks_stores_left disk.reads disk.call_number disk.images disk.images_since s few d0 d1 d2 (disk.reads d0) c.in-Ok.opened.0 c.in-Ok.opened.1 (λ k f le left. law.counts_now d1 k f told le left) (c.in-Ok.ensures.mark told) (c.open_marks.ensures.any_moment told) stores in
+    let d3 = c.open_outputs.new.disk in
+    let outputs = subst (λ (xs : List (List ℕ)). LeavesOnly disk.call_number disk.images disk.images_since d2 d3 (KeepsOutputs (length xs))) c.as_slice-2.ensures (c.open_outputs.ensures.any_moment told) in
+    outputs_left disk.reads disk.call_number disk.images disk.images_since s few d0 d2 d3 (λ k f le left. law.counts_now d2 k f told le left) opened outputs
 
 pub returns-clause-any_moment : goal.returns-clause-any_moment
 returns-clause-any_moment g c = λ told.
@@ -101,8 +113,68 @@ returns-clause-any_moment g c = λ told.
     let d0 = c.args.disk.now in
     let d1 = c.open_marks.new.disk in
     let d2 = c.open_stores.new.disk in
-    leaves_opening disk.call_number disk.images disk.images_since d0 c.open_outputs.new.disk c.args.setup.now
-    (grows_then disk.reads disk.call_number disk.images disk.images_since d0 d2 c.open_outputs.new.disk (λ k f le left. law.counts_now d2 k f told le left) (grows_then disk.reads disk.call_number disk.images disk.images_since d0 d1 d2 (λ k f le left. law.counts_now d1 k f told le left) (c.open_marks.ensures.any_moment told) (c.open_stores.ensures.any_moment told)) (c.open_outputs.ensures.any_moment told))
+    let s = c.args.setup.now in
+    let few : length s.stores ≤ 15 = omega (arith, c.requires.few_stores) in
+    let stores = subst (λ (xs : List StoreSetup). LeavesOnly disk.call_number disk.images disk.images_since d1 d2 (TrimsFiles c.in-Ok.opened.1 (length xs))) c.as_slice.ensures (c.open_stores.ensures.any_moment told) in
+    let opened = marks_stores_left disk.reads disk.call_number disk.images disk.images_since s few d0 d1 d2 (disk.reads d0) c.in-Ok.opened.0 c.in-Ok.opened.1 (λ k f le left. law.counts_now d1 k f told le left) (c.in-Ok.ensures.mark told) (c.open_marks.ensures.any_moment told) stores in
+    let d3 = c.open_outputs.new.disk in
+    let outputs = subst (λ (xs : List (List ℕ)). LeavesOnly disk.call_number disk.images disk.images_since d2 d3 (KeepsOutputs (length xs))) c.as_slice-2.ensures (c.open_outputs.ensures.any_moment told) in
+    outputs_left disk.reads disk.call_number disk.images disk.images_since s few d0 d2 d3 (λ k f le left. law.counts_now d2 k f told le left) opened outputs
+
+pub returns-in-Err-clause-reads : goal.returns-in-Err-clause-reads
+returns-in-Err-clause-reads g c = λ told.
+    let disk = g.D.Disk in
+    let law = (g.met.D.Disk g.world.𝓛 g.world.𝓜 g.world.𝓡 ((λ s x. x), (λ x. x), (λ x. x), λ x. x)) in
+    let last = c.open_marks.new.disk in
+    read_left disk.reads disk.call_number disk.images disk.images_since c.args.disk.now last (OpeningLeaves c.args.setup.now) (λ k f le left. law.counts_now last k f told le left) (law.read_is_image last told)
+    (returns-in-Err-clause-any_moment g c told)
+
+pub returns-in-Err-open_stores-clause-reads : goal.returns-in-Err-open_stores-clause-reads
+returns-in-Err-open_stores-clause-reads g c = λ told.
+    let disk = g.D.Disk in
+    let law = (g.met.D.Disk g.world.𝓛 g.world.𝓜 g.world.𝓡 ((λ s x. x), (λ x. x), (λ x. x), λ x. x)) in
+    let last = c.open_stores.new.disk in
+    read_left disk.reads disk.call_number disk.images disk.images_since c.args.disk.now last (OpeningLeaves c.args.setup.now) (λ k f le left. law.counts_now last k f told le left) (law.read_is_image last told)
+    (returns-in-Err-open_stores-clause-any_moment g c told)
+
+pub returns-in-Err-open_outputs-clause-reads : goal.returns-in-Err-open_outputs-clause-reads
+returns-in-Err-open_outputs-clause-reads g c = λ told.
+    let disk = g.D.Disk in
+    let law = (g.met.D.Disk g.world.𝓛 g.world.𝓜 g.world.𝓡 ((λ s x. x), (λ x. x), (λ x. x), λ x. x)) in
+    let last = c.open_outputs.new.disk in
+    read_left disk.reads disk.call_number disk.images disk.images_since c.args.disk.now last (OpeningLeaves c.args.setup.now) (λ k f le left. law.counts_now last k f told le left) (law.read_is_image last told)
+    (returns-in-Err-open_outputs-clause-any_moment g c told)
+
+pub returns-clause-reads : goal.returns-clause-reads
+returns-clause-reads g c = λ told.
+    let disk = g.D.Disk in
+    let law = (g.met.D.Disk g.world.𝓛 g.world.𝓜 g.world.𝓡 ((λ s x. x), (λ x. x), (λ x. x), λ x. x)) in
+    let last = c.open_outputs.new.disk in
+    read_left disk.reads disk.call_number disk.images disk.images_since c.args.disk.now last (OpeningLeaves c.args.setup.now) (λ k f le left. law.counts_now last k f told le left) (law.read_is_image last told)
+    (returns-clause-any_moment g c told)
+
+pub returns-in-Err-clause-refused_others : goal.returns-in-Err-clause-refused_others
+returns-in-Err-clause-refused_others g c = λ other told f none. c.in-Err.ensures.refused other told f none.no_mark
+
+pub returns-in-Err-open_stores-clause-refused_others : goal.returns-in-Err-open_stores-clause-refused_others
+returns-in-Err-open_stores-clause-refused_others g c = λ other told.
+    let disk = g.D.Disk in
+    let s = c.args.setup.now in
+    let r1 = disk.reads c.open_marks.new.disk in
+    let r2 = disk.reads c.open_stores.new.disk in
+    let behind = subst (λ (xs : List StoreSetup). SameFrom (changelog_file (length xs)) r1 r2) c.as_slice.ensures (c.in-Err-open_stores.ensures.refused other told) in
+    stores_others (length s.stores) (length s.outputs) (disk.reads c.args.disk.now) r1 r2 (c.in-Ok.ensures.elsewhere told) behind
+
+pub returns-in-Err-open_outputs-clause-refused_others : goal.returns-in-Err-open_outputs-clause-refused_others
+returns-in-Err-open_outputs-clause-refused_others g c = λ other told.
+    let disk = g.D.Disk in
+    let s = c.args.setup.now in
+    let r1 = disk.reads c.open_marks.new.disk in
+    let r2 = disk.reads c.open_stores.new.disk in
+    let r3 = disk.reads c.open_outputs.new.disk in
+    let behind = subst (λ (xs : List StoreSetup). SameFrom (changelog_file (length xs)) r1 r2) c.as_slice.ensures (c.in-Ok-open_stores.ensures.behind told) in
+    let outside = subst (λ (xs : List (List ℕ)). SameOutside (output_file 0) (length xs) r2 r3) c.as_slice-2.ensures (c.in-Err-open_outputs.ensures.refused other told) in
+    opened_others (length s.stores) (length s.outputs) (disk.reads c.args.disk.now) r1 r2 r3 (c.in-Ok.ensures.elsewhere told) behind outside
 
 pub returns-clause-others : goal.returns-clause-others
 returns-clause-others g c = λ told.
@@ -133,21 +205,11 @@ returns-clause-opens g c = λ told.
     let s = c.args.setup.now in
     let r0 = disk.reads c.args.disk.now in
     let r1 = disk.reads c.open_marks.new.disk in
-    let r2 = disk.reads c.open_stores.new.disk in
-    let i1 = disk.images c.open_marks.new.disk in
-    let i2 = disk.images c.open_stores.new.disk in
-    let h = c.in-Ok.ensures.mark told in
-    let same = c.in-Ok.ensures.elsewhere told in
     let mark = c.in-Ok.opened.1 in
-    let hs = subst (λ (xs : List StoreSetup). HoldsStores r1 r2 i2 mark (length xs) c.in-Ok-open_stores.opened.0.items c.in-Ok-open_stores.opened.1.items) c.as_slice.ensures (c.in-Ok-open_stores.ensures.stores told) in
-    let behind = subst (λ (xs : List StoreSetup). SameFrom (changelog_file (length xs)) r1 r2) c.as_slice.ensures (c.in-Ok-open_stores.ensures.behind told) in
-    let ho = subst (λ (xs : List (List ℕ)). HoldsOutputs r2 (disk.reads c.open_outputs.new.disk) (disk.images c.open_outputs.new.disk) (length xs) c.in-Ok-open_outputs.outputs.items) c.as_slice-2.ensures (c.in-Ok-open_outputs.ensures.outputs told) in
     record {
-      marked = marked s r0 r1 i1 c.in-Ok.opened.0 mark h;
-      stores = opens_were r0 r1 mark (length s.stores) same (subst (λ (xs : List StoreSetup). StoresOpen r1 mark (length xs)) c.as_slice.ensures (c.in-Ok-open_stores.ensures.opens told));
-      outputs =
-          outputs_held s r0 r1 r2 i1 i2 c.in-Ok.opened.0 mark (length s.stores) c.in-Ok-open_stores.opened.0.items c.in-Ok-open_stores.opened.1.items c.requires.few_stores h same hs behind
-          (disk.reads c.open_outputs.new.disk) (disk.images c.open_outputs.new.disk) (length s.outputs) c.in-Ok-open_outputs.outputs.items ho;
+      contents = c.from_vec.result;
+      restores = returns-clause-restored g c told;
+      stores = opens_were r0 r1 mark (length s.stores) (c.in-Ok.ensures.elsewhere told) (subst (λ (xs : List StoreSetup). StoresOpen r1 mark (length xs)) c.as_slice.ensures (c.in-Ok-open_stores.ensures.opens told));
     }
 
 pub returns-clause-limits : goal.returns-clause-limits

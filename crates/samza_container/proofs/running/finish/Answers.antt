@@ -1,13 +1,23 @@
+use Rattle.std.proofs.Common.{inl, inr}
+use Rattle.disk_model.proofs.Moments.{weaker}
+use Rattle.samza_container.specs.Leaves.{FinishLeaves}
+use Rattle.samza_container.proofs.Ending.{may_eight}
 use Rattle.samza_container.proofs.Reporting.{finishes_with}
 use Rattle.samza_container.proofs.running.finish.Goals as goal
 
-pub returns-in-Ok-unit_report-clause-done : goal.returns-in-Ok-unit_report-clause-done
-returns-in-Ok-unit_report-clause-done g c = λ told.
+pub returns-in-Ok-task_report-clause-done : goal.returns-in-Ok-task_report-clause-done
+returns-in-Ok-task_report-clause-done g c = λ told.
     let disk = g.D.Disk in
     let u = c.args.unit.now in
-    finishes_with (g.J.Job.meaning u.job) (disk.reads u.disk) (disk.reads c.do_all.new.unit.disk) u c.do_all.new.unit (c.in-Ok.ensures.done told) c.in-Ok-unit_report.text.items c.in-Ok-unit_report.ensures
+    let new = c.do_all.new.unit.disk in
+    finishes_with (g.J.Job.meaning u.job) (disk.reads u.disk) (disk.reads new) (disk.images new) u c.do_all.new.unit (c.in-Ok.ensures.done told) c.in-Ok-task_report.report c.in-Ok-task_report.ensures
 
-pub returns-in-Ok-unit_report-clause-durable : goal.returns-in-Ok-unit_report-clause-durable
-returns-in-Ok-unit_report-clause-durable g c = λ told image is.
+pub returns-in-Err-task_report-clause-any_moment : goal.returns-in-Err-task_report-clause-any_moment
+returns-in-Err-task_report-clause-any_moment g c = λ told contents restores.
+    let disk = g.D.Disk in
     let u = c.args.unit.now in
-    finishes_with (g.J.Job.meaning u.job) (g.D.Disk.reads u.disk) image u c.do_all.new.unit (c.in-Ok.ensures.durable told image is) c.in-Ok-unit_report.text.items c.in-Ok-unit_report.ensures
+    weaker disk.call_number disk.images disk.images_since u.disk c.do_all.new.unit.disk
+    (FinishLeaves 0 (g.J.Job.meaning u.job) u.setup u.messages u.next u.state (disk.reads u.disk) u.mark contents)
+    (FinishLeaves 8 (g.J.Job.meaning u.job) u.setup u.messages u.next u.state (disk.reads u.disk) u.mark contents)
+    (c.in-Ok.ensures.any_moment told contents restores)
+    (λ a b was left. elim left [ inl same ↦ inl same | inr commits ↦ inr (may_eight, commits.1) ])

@@ -1,53 +1,106 @@
-use Rattle.std.proofs.Common.{subst, sym}
+use Rattle.std.proofs.Common.{refl, subst, sym, ap, ◌∙◌}
 use Rattle.std.specs.Prelude.{map, string_bytes}
 use Rattle.samza_model.specs.Files.{Image}
 use Rattle.disk_model.proofs.SameDisks.{same_at_trans}
 use Rattle.shipped_jobs.specs.WordCount.{word_count}
-use Rattle.samza_container.specs.Causes.{WhyUnfinished}
-use Rattle.samza_container.specs.Configured.{folder_of, input_disk, task_disk}
-use Rattle.samza_container.specs.Reported.{IsStopped, Reported}
+use Rattle.samza_container.specs.Causes.{WhyUnfinished, status_of}
+use Rattle.samza_container.specs.Configured.{input_disk, task_disk}
+use Rattle.samza_container.specs.Leaves.{FolderLeaves, RunLeaves}
+use Rattle.samza_container.specs.Reported.{IsCause, Reported}
+use Rattle.samza_container.specs.Stops.{stops_with}
 use Rattle.samza_container.specs.declared.faults.RunFault.{RunFault}
-use Rattle.samza_container.proofs.Naming.{named_in, not_ready}
-use Rattle.samza_container.proofs.Ready.{stopped}
-use Rattle.samza_container.proofs.Told.{if_err_three, if_ok}
+use Rattle.samza_container.proofs.Ending.{folder_status, task_status}
+use Rattle.samza_container.proofs.Leaving.{leaves_more, same_then}
+use Rattle.samza_container.proofs.Naming.{of_folder, of_task}
+use Rattle.samza_container.proofs.Told.{if_err, if_err_four, if_ok, never_two}
+use Rattle.samza_container.proofs.Exact.{not_words}
+use Rattle.samza_container.proofs.Wording.{refused_at}
 use Rattle.samza_container.proofs.top.run.Goals as goal
 
 pub returns-in-Ok-prepare-clause-others : goal.returns-in-Ok-prepare-clause-others
 returns-in-Ok-prepare-clause-others g c = λ told n other.
     let h = g.H.Host in
-    same_at_trans h.reads h.images h.images_since h.call_number h.file_count c.args.host.now c.prepare.new.host c.run_set_up.new.host n (c.in-Ok-prepare.ensures.disks told n) (c.run_set_up.ensures.others told n other)
+    same_at_trans h.folder h.images h.images_since h.call_number c.args.host.now c.prepare.new.host c.run_set_up.new.host n (c.in-Ok-prepare.ensures.disks told n) (c.run_set_up.ensures.others told n other)
 
-pub returns-in-Ok-prepare-clause-why : goal.returns-in-Ok-prepare-clause-why
-returns-in-Ok-prepare-clause-why g c =
+pub returns-in-Ok-prepare-clause-ran : goal.returns-in-Ok-prepare-clause-ran
+returns-in-Ok-prepare-clause-ran g c =
     let h = g.H.Host in
-    let host = c.args.host.now in
+    let old = c.args.host.now in
+    let mid = c.prepare.new.host in
+    let new = c.run_set_up.new.host in
     let s = c.in-Ok-prepare.setup in
-    let f = folder_of (h.text_of host) (h.file_count host) (h.reads host) in
-    let words = map string_bytes c.args.words.now in
-    if_err_three c.run_set_up.result (λ stop of why named told.
-    let ready = c.in-Ok-prepare.ensures.ready told in
+    if_ok c.run_set_up.result (λ report ran told.
     let same = c.in-Ok-prepare.ensures.disks told in
-    let input = subst (λ (i : Image). WhyUnfinished word_count s (i 0) (h.reads c.prepare.new.host task_disk) stop.fault) (same (input_disk s)).disk.reads_are (why told) in
-    let both = subst (λ (i : Image). WhyUnfinished word_count s (h.reads host (input_disk s) 0) i stop.fault) (same task_disk).disk.reads_are input in
-    (stopped words f s stop.fault of ready both, named_in f s stop.fault stop.inputs.items ready named))
-    c.run_set_up.ensures.of_task c.run_set_up.ensures.why c.run_set_up.ensures.named
+    let after = (h.folder new).disks task_disk in
+    let input = subst (λ (i : Image). Reported word_count s (i 0) ((h.folder mid).disks task_disk) after (h.images new task_disk) report) (same (input_disk s)).disk.reads_are (ran told) in
+    record {
+      job = word_count;
+      setup = s;
+      ready = c.in-Ok-prepare.ensures.ready told;
+      reported = subst (λ (i : Image). Reported word_count s ((h.folder old).disks (input_disk s) 0) i after (h.images new task_disk) report) (same task_disk).disk.reads_are input;
+    })
+    c.run_set_up.ensures.ran
 
-pub returns-in-Err-prepare-clause-why : goal.returns-in-Err-prepare-clause-why
-returns-in-Err-prepare-clause-why g c = λ told.
+pub returns-in-Ok-prepare-clause-any_moment : goal.returns-in-Ok-prepare-clause-any_moment
+returns-in-Ok-prepare-clause-any_moment g c = λ told.
     let h = g.H.Host in
-    let host = c.args.host.now in
-    let f = folder_of (h.text_of host) (h.file_count host) (h.reads host) in
+    let old = c.args.host.now in
+    let mid = c.prepare.new.host in
+    let new = c.run_set_up.new.host in
+    let s = c.in-Ok-prepare.setup in
+    let status = stops_with c.run_set_up.result in
+    let same = c.in-Ok-prepare.ensures.disks told in
+    let input = (h.folder mid).disks (input_disk s) 0 in
+    let task = (h.folder mid).disks task_disk in
+    same_then h.folder h.images h.images_since h.call_number old mid new task_disk (FolderLeaves (h.folder old) status) (same task_disk)
+    (leaves_more h.folder h.images h.images_since h.call_number mid new task_disk (RunLeaves status word_count s input task) (FolderLeaves (h.folder old) status)
+    (λ a d left. (
+      word_count,
+      s,
+      c.in-Ok-prepare.ensures.ready told,
+      subst (λ (i : Image). RunLeaves status word_count s ((h.folder old).disks (input_disk s) 0) i a d) (same task_disk).disk.reads_are
+          (subst (λ (i : Image). RunLeaves status word_count s (i 0) task a d) (same (input_disk s)).disk.reads_are left),
+    ))
+    (c.run_set_up.ensures.any_moment told))
+
+pub returns-in-Ok-prepare-clause-cause : goal.returns-in-Ok-prepare-clause-cause
+returns-in-Ok-prepare-clause-cause g c =
+    let h = g.H.Host in
+    let old = c.args.host.now in
+    let mid = c.prepare.new.host in
+    let s = c.in-Ok-prepare.setup in
+    let words = map string_bytes c.args.words.now in
+    if_err_four c.run_set_up.result (λ stop of why named _.
+    of_task h.tells words (h.folder old) word_count s stop.task stop.inputs.items stop.fault c.in-Ok-prepare.ensures.set_up of named c.in-Ok-prepare.ensures.ready (λ told.
+    let same = c.in-Ok-prepare.ensures.disks told in
+    subst (λ (i : Image). WhyUnfinished word_count s ((h.folder old).disks (input_disk s) 0) i stop.fault) (same task_disk).disk.reads_are
+    (subst (λ (i : Image). WhyUnfinished word_count s (i 0) ((h.folder mid).disks task_disk) stop.fault) (same (input_disk s)).disk.reads_are (why told))))
+    c.run_set_up.ensures.told c.run_set_up.ensures.why c.run_set_up.ensures.named c.run_set_up.ensures.told
+
+pub returns-in-Err-prepare-clause-cause : goal.returns-in-Err-prepare-clause-cause
+returns-in-Err-prepare-clause-cause g c =
+    let h = g.H.Host in
     let words = map string_bytes c.args.words.now in
     let stop = c.before_task-in-Err-prepare.result in
-    subst (λ (e : RunFault). IsStopped words f stop.inputs.items e) (sym c.before_task-in-Err-prepare.ensures) (not_ready words f stop.inputs.items c.in-Err-prepare.fault c.in-Err-prepare.ensures.past (c.in-Err-prepare.ensures.why told))
+    subst (λ (e : RunFault). IsCause h.tells words (h.folder c.args.host.now) stop.task stop.inputs.items e) (sym c.before_task-in-Err-prepare.ensures)
+    (of_folder h.tells words (h.folder c.args.host.now) stop.task stop.inputs.items c.in-Err-prepare.fault c.in-Err-prepare.ensures.of_folder c.in-Err-prepare.ensures.why)
 
-pub returns-in-Ok-prepare-clause-durable : goal.returns-in-Ok-prepare-clause-durable
-returns-in-Ok-prepare-clause-durable g c =
+pub returns-in-Err-clause-cause : goal.returns-in-Err-clause-cause
+returns-in-Err-clause-cause g c =
     let h = g.H.Host in
-    let host = c.args.host.now in
-    let s = c.in-Ok-prepare.setup in
-    if_ok c.run_set_up.result (λ text ran told image is.
-    let same = c.in-Ok-prepare.ensures.disks told in
-    let input = subst (λ (i : Image). Reported word_count s (i 0) (h.reads c.prepare.new.host task_disk) image text.items) (same (input_disk s)).disk.reads_are (ran told image is) in
-    (s, c.in-Ok-prepare.ensures.ready told, subst (λ (i : Image). Reported word_count s (h.reads host (input_disk s) 0) i image text.items) (same task_disk).disk.reads_are input))
-    c.run_set_up.ensures.durable
+    let words = map string_bytes c.args.words.now in
+    let stop = c.before_task.result in
+    subst (λ (e : RunFault). IsCause h.tells words (h.folder c.args.host.now) stop.task stop.inputs.items e) (sym c.before_task.ensures)
+    (let refused = refused_at words c.in-Err.place c.in-Err.ensures.refused in record { told = refused; why = λ told. refused; named = λ told. tt })
+
+pub returns-in-Ok-prepare-clause-refused : goal.returns-in-Ok-prepare-clause-refused
+returns-in-Ok-prepare-clause-refused g c = λ two. absurd (never_two c.run_set_up.result (if_err c.run_set_up.result (λ stop of. task_status c.in-Ok-prepare.setup stop.fault of) c.run_set_up.ensures.told) two)
+
+pub returns-in-Err-prepare-clause-refused : goal.returns-in-Err-prepare-clause-refused
+returns-in-Err-prepare-clause-refused g c = λ two.
+    absurd (folder_status c.in-Err-prepare.fault c.in-Err-prepare.ensures.of_folder (sym (ap status_of c.before_task-in-Err-prepare.ensures) ∙ two))
+
+pub returns-in-Err-clause-refused : goal.returns-in-Err-clause-refused
+returns-in-Err-clause-refused g c = λ two.
+    let words = map string_bytes c.args.words.now in
+    ((λ is. not_words words c.in-Err.place is (refused_at words c.in-Err.place c.in-Err.ensures.refused)), refl)

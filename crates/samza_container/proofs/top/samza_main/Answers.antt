@@ -1,20 +1,121 @@
-use Rattle.std.proofs.Common.{inl, inr, refl, subst, sym}
+use Rattle.std.proofs.Common.{[], inl, inr, refl, subst, sym, ◌∙◌}
+use Rattle.std.proofs.lemmas.Bool.{cases_eq}
 use Rattle.std.specs.Prelude.{map, string_bytes}
-use Rattle.samza_container.specs.Configured.{folder_of}
-use Rattle.samza_container.specs.Reported.{IsStopped}
-use Rattle.samza_container.specs.declared.faults.RunFault.{RunFault}
+use Rattle.samza_container.specs.Causes.{status_of}
+use Rattle.samza_container.specs.Configured.{task_disk}
+use Rattle.samza_container.specs.Leaves.{FolderLeaves, MayCommit}
+use Rattle.samza_container.specs.declared.faults.RunFault.TheVariants.{NoMemory}
+use Rattle.samza_container.proofs.Ending.{leaves_as, may_eight, may_seven, printed_as, printed_cause, printed_may}
+use Rattle.samza_container.proofs.Exact.{not_stopped}
+use Rattle.samza_container.proofs.Leaving.{leaves_more}
+use Rattle.samza_container.proofs.Naming.{no_memory}
 use Rattle.samza_container.proofs.top.samza_main.Goals as goal
 
-pub returns-in-Err-clause-cut : goal.returns-in-Err-clause-cut
-returns-in-Err-clause-cut g c = λ cut.
+pub returns-in-Ok-clause-any_moment : goal.returns-in-Ok-clause-any_moment
+returns-in-Ok-clause-any_moment g c = λ told.
     let h = g.H.Host in
-    let host = c.args.host.now in
-    let f = folder_of (h.text_of host) (h.file_count host) (h.reads host) in
-    let words = map string_bytes c.args.words.now in
-    let inputs = c.in-Err.stopped.inputs.items in
-    let p = c.put_fault.ensures.printed in
-    let because : h.tells → IsStopped words f inputs p.cause = λ told. elim p.cause_is [
-      | inl is ↦ subst (λ (e : RunFault). IsStopped words f inputs e) (sym is) (c.in-Err.ensures.why told)
-      | inr is ↦ subst (λ (e : RunFault). IsStopped words f inputs e) (sym is) (inl tt, tt)
+    let f = h.folder c.args.host.now in
+    let result = c.put_report.result in
+    let may : MayCommit 0 → MayCommit result = λ zero. elim c.put_report.ensures.one_of [
+      | inl is ↦ subst MayCommit (sym is) zero
+      | inr (inl is) ↦ subst MayCommit (sym is) may_seven
+      | inr (inr is) ↦ subst MayCommit (sym is) may_eight
     ] in
-    inr (p.cause, inputs, because, refl, p.part)
+    leaves_more h.folder h.images h.images_since h.call_number c.args.host.now c.run.new.host task_disk (FolderLeaves f 0) (FolderLeaves f result) (leaves_as f 0 result may) (c.in-Ok.ensures.any_moment told)
+
+pub returns-in-Err-clause-any_moment : goal.returns-in-Err-clause-any_moment
+returns-in-Err-clause-any_moment g c = λ told.
+    let h = g.H.Host in
+    let f = h.folder c.args.host.now in
+    let s = c.in-Err.stopped in
+    let result = c.put_fault.result in
+    let status = status_of s.fault in
+    leaves_more h.folder h.images h.images_since h.call_number c.args.host.now c.run.new.host task_disk (FolderLeaves f status) (FolderLeaves f result)
+    (leaves_as f status result (printed_may g.E.Sink.tells (g.E.Sink.received c.args.err.now) (g.E.Sink.received c.put_fault.new.err) s.task s.inputs.items s.fault result c.put_fault.ensures.printed))
+    (c.in-Err.ensures.any_moment told)
+
+pub returns-in-Ok-clause-well : goal.returns-in-Ok-clause-well
+returns-in-Ok-clause-well g c = λ zero. record { report = c.in-Ok.report; ran = c.in-Ok.ensures.ran; printed = (c.put_report.ensures.whole zero).0 }
+
+pub returns-in-Ok-clause-stopped : goal.returns-in-Ok-clause-stopped
+returns-in-Ok-clause-stopped g c = λ zero seven. elim c.put_report.ensures.one_of [
+  | inl is ↦ absurd (zero is)
+  | inr (inl is) ↦ absurd (seven is)
+  | inr (inr is) ↦ record {
+    cause = NoMemory;
+    task = record { 0 = 0 };
+    inputs = [];
+    status_is = is;
+    is = no_memory g.H.Host.tells (map string_bytes c.args.words.now) (g.H.Host.folder c.args.host.now) (record { 0 = 0 }) [];
+    printed = (c.put_report.ensures.none is).1;
+  }
+]
+
+pub returns-in-Ok-clause-unheard : goal.returns-in-Ok-clause-unheard
+returns-in-Ok-clause-unheard g c = λ seven. elim (c.put_report.ensures.cut seven) [
+  | inl p ↦ inl (record { report = c.in-Ok.report; ran = c.in-Ok.ensures.ran; part = p.1; rose = p.0 }, p.2)
+  | inr p ↦ inr (
+    p.1,
+    record {
+      cause = NoMemory;
+      task = record { 0 = 0 };
+      inputs = [];
+      is = no_memory g.H.Host.tells (map string_bytes c.args.words.now) (g.H.Host.folder c.args.host.now) (record { 0 = 0 }) [];
+      part = p.2;
+      rose = p.0;
+    },
+  )
+]
+
+pub returns-in-Ok-clause-complete : goal.returns-in-Ok-clause-complete
+returns-in-Ok-clause-complete g c = λ told is can steady. elim c.put_report.ensures.one_of [
+  | inl zero ↦ inl zero
+  | inr (inl seven) ↦ elim (c.put_report.ensures.cut seven) [ inl p ↦ absurd (steady.of_out p.0) | inr p ↦ absurd (steady.of_err p.0) ]
+  | inr (inr eight) ↦ inr eight
+]
+
+pub returns-in-Err-clause-stopped : goal.returns-in-Err-clause-stopped
+returns-in-Err-clause-stopped g c = λ zero seven.
+    let s = c.in-Err.stopped in
+    let p = c.put_fault.ensures.printed in
+    let result = c.put_fault.result in
+    record {
+      cause = p.cause;
+      task = s.task;
+      inputs = s.inputs.items;
+      status_is = p.status_is seven;
+      is = printed_cause g.E.Sink.tells (g.E.Sink.received c.args.err.now) (g.E.Sink.received c.put_fault.new.err) s.task s.inputs.items s.fault result p g.H.Host.tells (map string_bytes c.args.words.now) (g.H.Host.folder c.args.host.now) c.in-Err.ensures.cause;
+      printed = p.whole seven;
+    }
+
+pub returns-in-Err-clause-unheard : goal.returns-in-Err-clause-unheard
+returns-in-Err-clause-unheard g c = λ seven.
+    let s = c.in-Err.stopped in
+    let p = c.put_fault.ensures.printed in
+    let result = c.put_fault.result in
+    inr (
+      refl,
+      record {
+        cause = p.cause;
+        task = s.task;
+        inputs = s.inputs.items;
+        is = printed_cause g.E.Sink.tells (g.E.Sink.received c.args.err.now) (g.E.Sink.received c.put_fault.new.err) s.task s.inputs.items s.fault result p g.H.Host.tells (map string_bytes c.args.words.now) (g.H.Host.folder c.args.host.now) c.in-Err.ensures.cause;
+        part = p.part;
+        rose = c.put_fault.ensures.failed seven;
+      },
+    )
+
+pub returns-in-Err-clause-complete : goal.returns-in-Err-clause-complete
+returns-in-Err-clause-complete g c = λ told is can steady.
+    let s = c.in-Err.stopped in
+    let result = c.put_fault.result in
+    let words = map string_bytes c.args.words.now in
+    elim (cases_eq result 7) [
+      | inl seven ↦ absurd (steady.of_err (c.put_fault.ensures.failed seven))
+      | inr seven ↦ elim (cases_eq result 8) [
+        | inl eight ↦ inr eight
+        | inr eight ↦
+            let same = printed_as g.E.Sink.tells (g.E.Sink.received c.args.err.now) (g.E.Sink.received c.put_fault.new.err) s.task s.inputs.items s.fault result c.put_fault.ensures.printed seven eight in
+            absurd (not_stopped words (g.H.Host.folder c.args.host.now) s.fault is can (λ four. steady.of_host (c.in-Err.ensures.device four)) (λ memory. eight (same ∙ memory)) (c.in-Err.ensures.cause.why told))
+      ]
+    ]

@@ -2,21 +2,33 @@ use Rattle.std.proofs.Common.{◌≡◌, ◌≤◌, ◌<◌, ◌∙◌, ap, sym,
 use Rattle.samza_model.specs.declared.messages.Record.{Record}
 use Rattle.samza_model.specs.declared.checkpoints.Checkpoint.{Checkpoint}
 use Rattle.samza_model.specs.declared.setups.InputSetup.{InputSetup}
-use Rattle.samza_model.specs.Restored.{next_at, start_of}
+use Rattle.samza_model.specs.Partition.{partition_of}
+use Rattle.samza_model.specs.Restored.{id_of, next_at, start_of}
+use Rattle.samza_model.proofs.Partitions.{end_in}
 use Rattle.restore_trim.specs.declared.faults.OpenFault.TheVariants.{Ahead}
 use Rattle.topic_log.specs.declared.logs.Log.{Log}
-use Rattle.topic_log.specs.Opened.{is_broken}
+use Rattle.topic_log.specs.Opened.{count_of, is_broken}
 use Rattle.samza_model.specs.Logs.{HasLog}
 use Rattle.restore_trim.specs.Refused.{StoresOpen}
 use Rattle.restore_trim.specs.Standing.{IsRestored, AllSound}
 use Rattle.std.proofs.lemmas.List.{length-map}
 use Rattle.kv_store.specs.Tracked.{Tracked}
 use Rattle.task_unit.specs.Acting.{held}
-use Rattle.task_unit.specs.Held.{contents_of}
+use Rattle.unit_logs.specs.Held.{contents_of}
 use Rattle.task_unit.specs.Inputs.{TellsInput, WhyNoInput}
 use Rattle.task_unit.specs.Units.{input_of}
+use Rattle.unit_logs.proofs.SetUps.{few_stores, few_outputs}
 use Rattle.task_unit.proofs.Begun.{restored_as, restores_as, stands_restored, whole_restored, logs_stay, next_kept}
 use Rattle.task_unit.proofs.beginning.start.Goals as goal
+
+pub restore-requires-clause-few_stores : goal.restore-requires-clause-few_stores
+restore-requires-clause-few_stores g c κs within = few_stores c.args.setup.now c.requires
+
+pub restore-requires-clause-few_outputs : goal.restore-requires-clause-few_outputs
+restore-requires-clause-few_outputs g c κs within = few_outputs c.args.setup.now c.requires
+
+pub overflow_cast-outputs : goal.overflow_cast-outputs
+overflow_cast-outputs g c = omega (arith, few_outputs c.args.setup.now c.requires, ap length c.as_slice-2.ensures)
 
 pub returns-in-Ok-begin-clause-on_disk : goal.returns-in-Ok-begin-clause-on_disk
 returns-in-Ok-begin-clause-on_disk g c = λ told.
@@ -46,7 +58,23 @@ returns-in-Ok-begin-clause-logs_stay g c = λ told.
     let stores = contents_of (held u.holdings).stores in
     let stand : IsRestored s before reads images u.mark u.logs.marks u.logs.changelogs.items u.logs.outputs.items stores =
     restored_as s before reads images r.checkpoint u.mark r.marks r.changelogs r.outputs u.logs r.tables stores made.mark made.logs made.contents (c.in-Ok.ensures.stands told) in
-    logs_stay s before reads images u.mark u.logs (held u.holdings) stand
+    let law = (g.met.D.Disk g.world.𝓛 g.world.𝓜 g.world.𝓡 ((λ s x. x), (λ x. x), (λ x. x), λ x. x)) in
+    logs_stay s before reads images u.mark u.logs (held u.holdings) stand reads (law.read_is_image c.restore.new.disk told)
+
+pub returns-in-Ok-begin-clause-logs_durable : goal.returns-in-Ok-begin-clause-logs_durable
+returns-in-Ok-begin-clause-logs_durable g c = λ told f now.
+    let disk = g.D.Disk in
+    let s = c.args.setup.now in
+    let r = c.in-Ok.restored in
+    let u = c.in-Ok-begin.started in
+    let made = c.in-Ok-begin.ensures in
+    let before = disk.reads c.args.disk.now in
+    let reads = disk.reads c.restore.new.disk in
+    let images = disk.images c.restore.new.disk in
+    let stores = contents_of (held u.holdings).stores in
+    let stand : IsRestored s before reads images u.mark u.logs.marks u.logs.changelogs.items u.logs.outputs.items stores =
+    restored_as s before reads images r.checkpoint u.mark r.marks r.changelogs r.outputs u.logs r.tables stores made.mark made.logs made.contents (c.in-Ok.ensures.stands told) in
+    logs_stay s before reads images u.mark u.logs (held u.holdings) stand f now
 
 pub returns-in-Ok-begin-clause-whole : goal.returns-in-Ok-begin-clause-whole
 returns-in-Ok-begin-clause-whole g c = λ told.
@@ -85,13 +113,13 @@ returns-in-Ok-begin-clause-start g c =
     let next = c.in-Ok-first_offset.next in
     let u = c.in-Ok-begin.started in
     let made = c.in-Ok-begin.ensures in
-    let here : next ≡ start_of (next_at mark 0) (input_of s) (record { first = 0; records = records }) =
+    let here : next ≡ start_of (next_at mark 0) (input_of s) (partition_of records) =
     c.in-Ok-first_offset.ensures.start records (ap (λ (l : List Record). length l) c.as_slice.ensures.value)
-    ∙ ap (λ k. start_of k c.first_input-input.result.now (record { first = 0; records = records })) (next_kept s mark c.kept_offset.result c.requires.one_input c.in-Ok.ensures.named c.kept_offset.ensures.kept c.kept_offset.ensures.none)
-    ∙ ap (λ i. start_of (next_at mark 0) i (record { first = 0; records = records })) c.first_input-input.ensures in
+    ∙ ap (λ k. start_of k c.first_input-input.result.now (partition_of records)) (next_kept s mark c.kept_offset.result c.requires.one_input c.in-Ok.ensures.named c.kept_offset.ensures.kept c.kept_offset.ensures.none)
+    ∙ ap (λ i. start_of (next_at mark 0) i (partition_of records)) c.first_input-input.ensures in
     made.input.1
-    ∙ subst (λ (m : Option Checkpoint). next ≡ start_of (next_at m 0) (input_of s) (record { first = 0; records = u.messages.items })) (sym made.mark)
-    (subst (λ (l : List Record). next ≡ start_of (next_at mark 0) (input_of s) (record { first = 0; records = l })) (sym made.input.0) here)
+    ∙ subst (λ (m : Option Checkpoint). next ≡ start_of (next_at m 0) (input_of s) (partition_of u.messages.items)) (sym made.mark)
+    (subst (λ (l : List Record). next ≡ start_of (next_at mark 0) (input_of s) (partition_of l)) (sym made.input.0) here)
 
 pub returns-in-Err-clause-why : goal.returns-in-Err-clause-why
 returns-in-Err-clause-why g c = inl c.in-Err.ensures.why
@@ -120,7 +148,7 @@ returns-in-Err-first_offset-clause-why g c =
       kept = sym (next_kept s mark c.kept_offset.result c.requires.one_input c.in-Ok.ensures.named c.kept_offset.ensures.kept c.kept_offset.ensures.none) ∙ a.2;
       honoured = sym (ap (λ (i : InputSetup). i.reset) c.first_input-input.ensures) ∙ a.3;
       past = omega (arith, a.4, end);
-      fault = a.1 ∙ ap (λ n. Ahead (Some 0) None a.0 n) end;
+      fault = a.1 ∙ ap (λ n. Ahead (Some 0) None a.0 n) (end ∙ sym (end_in records));
     }))
 
 pub returns-in-Ok-begin-clause-opens : goal.returns-in-Ok-begin-clause-opens
@@ -205,3 +233,8 @@ returns-in-Err-read_input-clause-told g c =
 
 pub returns-in-Err-first_offset-clause-told : goal.returns-in-Err-first_offset-clause-told
 returns-in-Err-first_offset-clause-told g c = inr (c.in-Err-first_offset.ensures.told (input_of c.args.setup.now).ssp.partition)
+
+pub returns-in-Ok-begin-clause-counted : goal.returns-in-Ok-begin-clause-counted
+returns-in-Ok-begin-clause-counted g c =
+    let made = c.in-Ok-begin.ensures in
+    ap count_of made.logs.0 ∙ c.in-Ok.ensures.counted ∙ sym (ap id_of made.mark)

@@ -3,8 +3,8 @@ use Rattle.std.specs.Prelude.{Option, IfSome}
 use Rattle.std.proofs.lemmas.Grind.{common_steps}
 use Rattle.samza_model.specs.declared.messages.Record.{Record}
 use Rattle.log_frame.specs.declared.decoding.Decoded.{Decoded}
-use Rattle.topic_log.specs.Lists.{IsListed, ListedTo}
-use Rattle.topic_log.proofs.Listing.{listed_more}
+use Rattle.topic_log.specs.Lists.{IsListed}
+use Rattle.topic_log.proofs.Listing.{ListedTo, listed_more}
 use Rattle.topic_log.proofs.shelf_logs.records_in.Goals as goal
 
 pub gates-preserved : goal.gates-preserved

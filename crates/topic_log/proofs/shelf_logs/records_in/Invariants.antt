@@ -1,5 +1,5 @@
 use Rattle.std.proofs.Common.{◌≤◌, ◌-◌, length}
-use Rattle.topic_log.specs.Lists.{ListedTo}
+use Rattle.topic_log.proofs.Listing.{ListedTo}
 use Rattle.topic_log.proofs.shelf_logs.records_in.Given as goal
 
 abbrev pub invariant-gates : goal.invariant-gates

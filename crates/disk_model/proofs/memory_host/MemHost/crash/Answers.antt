@@ -2,13 +2,15 @@ use Rattle.std.proofs.Common.{ℕ, ◌≡◌, ◌≢◌, ◌∙◌, ◌⊎◌, L
 use Rattle.std.specs.Prelude.{IfSome}
 use Rattle.std.specs.Vec.{with_items}
 use Rattle.std.proofs.lemmas.List.{with_items_is}
-use Rattle.disk_model.proofs.HostSteps.{at_items, held_from, in_from, named_at, placed_at}
+use Rattle.disk_model.proofs.HostSteps.{at_items, capacity_in, held_from, in_from, named_at, placed_at}
 use Rattle.disk_model.proofs.SlotSteps.{At, stays}
+use Rattle.disk_model.specs.Capacities.{Capacity, unused}
 use Rattle.disk_model.specs.HostSteps.{ChangesHeld, IsCrashed}
 use Rattle.disk_model.specs.Images.{Only}
-use Rattle.disk_model.specs.MemoryDisk.{mem_calls, mem_file_count, mem_images, mem_name, mem_reads, mem_states}
+use Rattle.disk_model.specs.MemoryDisk.{mem_calls, mem_capacity, mem_file_count, mem_images, mem_name, mem_reads, mem_states}
+use Rattle.disk_model.specs.MemoryHost.{host_bounds, new_capacity}
 use Rattle.disk_model.specs.Picks.{IsPicked}
-use Rattle.disk_model.specs.Slots.{held_in, images_in, number_in, out_held, outs_in, reads_in, shelves_in, slot_at}
+use Rattle.disk_model.specs.Slots.{held_in, images_in, number_in, or_else, out_held, outs_in, reads_in, shelves_in, slot_at}
 use Rattle.disk_model.specs.declared.memory_disk.MemDisk.{MemDisk}
 use Rattle.disk_model.specs.declared.names.DiskName.{DiskName}
 use Rattle.disk_model.specs.declared.picks.Pick.{Pick}
@@ -25,12 +27,13 @@ record InCrash (pick : Pick) (o p : Option MemDisk) : Type 0 where
   pub newest : pick ≡ New → (f : ℕ) → reads_in mem_reads p f ≡ reads_in mem_reads o f
   pub calls : number_in mem_calls p ≡ 0
   pub files : number_in mem_file_count p ≡ number_in mem_file_count o
+  pub capacity : (x : Capacity) → x ≡ unused x → or_else x mem_capacity p ≡ unused (or_else x mem_capacity o)
 
 in_none : (pick : Pick) → InCrash pick None None
-in_none pick = record { image = λ f. refl; one_image = λ f c now. now f; picked = tt; newest = λ is f. refl; calls = refl; files = refl }
+in_none pick = record { image = λ f. refl; one_image = λ f c now. now f; picked = tt; newest = λ is f. refl; calls = refl; files = refl; capacity = λ x e. e }
 
 in_some : (pick : Pick) (d e : MemDisk) → IsCrashed pick d e → InCrash pick (Some d) (Some e)
-in_some pick d e h = record { image = h.image; one_image = h.one_image; picked = h.picked; newest = h.newest; calls = h.calls; files = h.files }
+in_some pick d e h = record { image = h.image; one_image = h.one_image; picked = h.picked; newest = h.newest; calls = h.calls; files = h.files; capacity = λ x e. h.capacity }
 
 Named : List (Slot MemDisk) → Type 0
 Named l = (m : DiskName) (d : MemDisk) → held_in (slot_at l m) ≡ Some d → mem_name d ≡ m
@@ -129,3 +132,11 @@ returns-clause-disks_out c = (outcome (goal.at.returns-clause-disks_out c).After
 
 pub returns-clause-shelves_out : goal.returns-clause-shelves_out
 returns-clause-shelves_out c = (outcome (goal.at.returns-clause-shelves_out c).After-crash_held).shelves
+
+pub returns-clause-emptied : goal.returns-clause-emptied
+returns-clause-emptied c =
+    (outcome (goal.at.returns-clause-emptied c).After-crash_held).here.capacity (new_capacity (host_bounds c.args.self.now) c.args.name.now) refl
+
+pub returns-clause-capacity : goal.returns-clause-capacity
+returns-clause-capacity c = λ m ne.
+    ap (λ (o : Option MemDisk). capacity_in (host_bounds c.args.self.now) m o) ((outcome (goal.at.returns-clause-capacity c).After-crash_held).elsewhere m ne)

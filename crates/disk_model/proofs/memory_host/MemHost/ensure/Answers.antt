@@ -1,8 +1,9 @@
 use Rattle.std.proofs.Common.{◌≡◌, ◌∙◌, List, Some, None, ap, sym, refl, is_ok}
-use Rattle.disk_model.proofs.HostSteps.{SameIn, by_push, counts_pushed, fresh_in, held_from, named_pushed, same_in_pushed, same_in_refl}
+use Rattle.disk_model.proofs.HostSteps.{SameIn, by_push, capacity_in, capacity_pushed, counts_pushed, fresh_in, held_from, named_pushed, same_in_pushed, same_in_refl}
 use Rattle.disk_model.proofs.SlotSteps.{pushed_here}
 use Rattle.std.proofs.lemmas.Option.{none-some}
 use Rattle.disk_model.specs.MemoryDisk.{mem_name}
+use Rattle.disk_model.specs.MemoryHost.{host_bounds}
 use Rattle.disk_model.specs.Slots.{held_in, outs_in, shelves_in, slot_at}
 use Rattle.disk_model.specs.declared.memory_disk.MemDisk.{MemDisk}
 use Rattle.disk_model.specs.declared.names.DiskName.{DiskName}
@@ -77,3 +78,13 @@ returns-clause-there c = λ none.
     ap (λ (l : List (Slot MemDisk)). slot_at l n) c.in_ok-push.ensures.items
     ∙ pushed_here c.args.self.now.slots.items n (made a) (none_is a) c.in_ok-name.ensures in
     none-some (made a) (sym none ∙ here)
+
+pub returns-clause-capacity : goal.returns-clause-capacity
+unfolding made
+returns-clause-capacity c =
+    let a = (goal.at.returns-clause-capacity c).After-push in
+    let old = c.args.self.now in
+    let P : List (Slot MemDisk) → Type 0 = λ l. (m : DiskName) → capacity_in (host_bounds old) m (held_in (slot_at l m)) ≡ capacity_in (host_bounds old) m (held_in (slot_at old.slots.items m)) in
+    by_push P (is_ok c.push.result) old.slots.items _ (made a) c.push.ensures.items
+    (capacity_pushed (host_bounds old) old.slots.items c.args.name.now (made a) c.in_ok-disk.disk (none_is a) c.in_ok-name.ensures refl c.in_ok-disk.ensures.capacity)
+    (λ m. refl)

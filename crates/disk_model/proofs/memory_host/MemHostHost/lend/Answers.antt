@@ -1,9 +1,9 @@
 use Rattle.std.proofs.Common.{◌≡◌, ◌∙◌, ◌+◌, List, Option, Some, None, ap, sym, subst, refl}
-use Rattle.disk_model.proofs.HostSteps.{SameIn, at_items, in_from, in_trans, held_from, named_at}
+use Rattle.disk_model.proofs.HostSteps.{SameIn, at_items, capacity_in, in_from, in_trans, held_from, named_at}
 use Rattle.disk_model.proofs.SameDisks.{as_many_one_more, as_many_trans, same_disk_trans}
 use Rattle.disk_model.proofs.SlotSteps.{At, changes_at, in_slot, one_more, stays}
 use Rattle.disk_model.specs.MemoryDisk.{mem_name}
-use Rattle.disk_model.specs.MemoryHost.{disk_of}
+use Rattle.disk_model.specs.MemoryHost.{disk_of, host_bounds}
 use Rattle.disk_model.specs.Slots.{held_in, out_held, outs_in, shelves_in, slot_at}
 use Rattle.disk_model.specs.declared.memory_disk.MemDisk.{MemDisk}
 use Rattle.disk_model.specs.declared.slots.Slot.{Slot}
@@ -44,17 +44,24 @@ invariant_of-self-2 c =
     let mid = c.ensure.new.self in
     record { named = named_at mid.slots.items _ c.args.name.now p.0 _ p.4 mid.named (λ d e. no_disk d (mem_name d ≡ c.args.name.now) e) }
 
-pub returns-in-Some-clause-disk : goal.returns-in-Some-clause-disk
+lent : (c : After-take_held) (d : MemDisk) → c.take_held.result ≡ Some d → SameIn (disk_of c.args.self.now c.args.name.now) (Some d)
 unfolding Step
-returns-in-Some-clause-disk c =
-    let p = step (goal.at.returns-in-Some-clause-disk c).After-take_held in
+lent c d held =
+    let p = step c in
     let mid = c.ensure.new.self in
     let n = c.args.name.now in
-    let d = c.in-Some.disk in
-    let is : disk_of mid n ≡ Some d = ap held_in p.4.was ∙ p.2 ∙ sym p.3 ∙ c.in-Some.is in
+    let is : disk_of mid n ≡ Some d = ap held_in p.4.was ∙ p.2 ∙ sym p.3 ∙ held in
     let first : SameIn (disk_of c.args.self.now n) (disk_of mid n) = record { disk = (c.ensure.ensures.disks n).disk; files = (c.ensure.ensures.disks n).files_are } in
-    let both : SameIn (disk_of c.args.self.now n) (Some d) = subst (λ (o : Option MemDisk). SameIn (disk_of c.args.self.now n) o) is first in
+    subst (λ (o : Option MemDisk). SameIn (disk_of c.args.self.now n) o) is first
+
+pub returns-in-Some-clause-disk : goal.returns-in-Some-clause-disk
+returns-in-Some-clause-disk c =
+    let d = c.in-Some.disk in
+    let both = lent (goal.at.returns-in-Some-clause-disk c).After-take_held d c.in-Some.is in
     same_disk_trans _ (mem_reads d) _ (mem_images d) _ (mem_images_since d) _ (mem_calls d) _ _ _ _ both.disk c.as_handle.ensures.disk
+
+pub returns-in-Some-clause-there : goal.returns-in-Some-clause-there
+returns-in-Some-clause-there c = c.as_handle.ensures.files ∙ (lent (goal.at.returns-in-Some-clause-there c).After-take_held c.in-Some.disk c.in-Some.is).files
 
 pub returns-in-Some-clause-name : goal.returns-in-Some-clause-name
 unfolding Step
@@ -86,3 +93,9 @@ unfolding Step
 returns-in-Some-clause-shelves_out c =
     let p = step (goal.at.returns-in-Some-clause-shelves_out c).After-take_held in
     as_many_trans _ _ _ c.ensure.ensures.shelves_out (stays c.ensure.new.self.slots.items _ c.args.name.now p.0 _ p.4 shelves_in refl)
+
+pub returns-in-Some-clause-capacity : goal.returns-in-Some-clause-capacity
+unfolding Step
+returns-in-Some-clause-capacity c = λ m ne.
+    let p = step (goal.at.returns-in-Some-clause-capacity c).After-take_held in
+    ap (λ (o : Option (Slot MemDisk)). capacity_in (host_bounds c.ensure.new.self) m (held_in o)) (p.4.elsewhere m ne) ∙ c.ensure.ensures.capacity m

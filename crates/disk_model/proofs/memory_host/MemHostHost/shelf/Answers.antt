@@ -1,11 +1,11 @@
-use Rattle.std.proofs.Common.{◌≡◌, ◌∙◌, ◌+◌, List, true, false, Some, length, ap, arith, sym, refl}
+use Rattle.std.proofs.Common.{◌≡◌, ◌∙◌, ◌+◌, List, Option, true, false, Some, length, ap, arith, sym, refl}
 use Rattle.std.proofs.lemmas.Bool.{cases_Bool}
 use Rattle.std.proofs.lemmas.List.{with_items_is}
 use Rattle.std.proofs.Common.{inl, inr}
-use Rattle.disk_model.proofs.HostSteps.{SameIn, at_items, in_from, in_trans, some_slot, held_from}
+use Rattle.disk_model.proofs.HostSteps.{SameIn, at_items, capacity_in, in_from, in_trans, some_slot, held_from}
 use Rattle.disk_model.proofs.SameDisks.{as_many_one_more, as_many_trans}
 use Rattle.disk_model.proofs.SlotSteps.{At, changes_at, one_more, stays}
-use Rattle.disk_model.specs.MemoryHost.{disk_of}
+use Rattle.disk_model.specs.MemoryHost.{disk_of, host_bounds}
 use Rattle.disk_model.specs.Slots.{held_in, outs_in, shelves_in, slot_at}
 use Rattle.disk_model.specs.declared.memory_disk.MemDisk.{MemDisk}
 use Rattle.disk_model.specs.declared.names.DiskName.{DiskName}
@@ -75,3 +75,8 @@ unfolding Step
 returns-clause-disks_out c =
     let p = step (goal.at.returns-clause-disks_out c).After-one_out c.if-not-one_out.false in
     as_many_trans _ _ _ c.ensure.ensures.disks_out (stays c.ensure.new.self.slots.items _ c.args.name.now p.0 _ p.1 outs_in refl)
+
+pub returns-clause-capacity : goal.returns-clause-capacity
+returns-clause-capacity c = λ m.
+    let a = (goal.at.returns-clause-capacity c).After-one_out in
+    ap (λ (o : Option MemDisk). capacity_in (host_bounds c.ensure.new.self) m o) (held_kept a m) ∙ c.ensure.ensures.capacity m

@@ -1,7 +1,8 @@
-use Rattle.std.proofs.Common.{◌≡◌, ◌∙◌, ◌-◌, ◌≤◌, List, Some, ap, arith, sym, refl}
-use Rattle.disk_model.proofs.HostSteps.{at_items, same_held}
+use Rattle.std.proofs.Common.{◌≡◌, ◌∙◌, ◌-◌, ◌≤◌, List, Option, Some, ap, arith, sym, refl}
+use Rattle.disk_model.proofs.HostSteps.{at_items, capacity_in, same_held}
 use Rattle.disk_model.proofs.SlotSteps.{At, changes_at, one_less, shelf_slot, stays}
 use Rattle.std.specs.Vec.{with_items}
+use Rattle.disk_model.specs.MemoryHost.{host_bounds}
 use Rattle.disk_model.specs.Slots.{held_in, outs_in, shelves_in, slot_at}
 use Rattle.disk_model.specs.declared.memory_disk.MemDisk.{MemDisk}
 use Rattle.disk_model.specs.declared.slots.Slot.{Slot}
@@ -43,10 +44,17 @@ pub returns-clause-disks : goal.returns-clause-disks
 unfolding Step
 returns-clause-disks c =
     let p = step (goal.at.returns-clause-disks c).After-one_in in
-    λ told m. same_held c.args.self.now _ m (stays c.args.self.now.slots.items _ c.args.shelf.name p.0 _ p.2 held_in refl m)
+    λ m. same_held c.args.self.now _ m (stays c.args.self.now.slots.items _ c.args.shelf.name p.0 _ p.2 held_in refl m)
 
 pub returns-clause-disks_out : goal.returns-clause-disks_out
 unfolding Step
 returns-clause-disks_out c =
     let p = step (goal.at.returns-clause-disks_out c).After-one_in in
     stays c.args.self.now.slots.items _ c.args.shelf.name p.0 _ p.2 outs_in refl
+
+pub returns-clause-capacity : goal.returns-clause-capacity
+unfolding Step
+returns-clause-capacity c = λ m.
+    let p = step (goal.at.returns-clause-capacity c).After-one_in in
+    let old = c.args.self.now in
+    stays old.slots.items _ c.args.shelf.name p.0 _ p.2 (λ (o : Option (Slot MemDisk)). capacity_in (host_bounds old) m (held_in o)) refl m

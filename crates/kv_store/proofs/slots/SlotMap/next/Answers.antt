@@ -1,6 +1,5 @@
 use Rattle.std.proofs.Common.{ap, sym, ◌∙◌}
-use Rattle.kv_store.specs.Slots.{first_live}
-use Rattle.kv_store.proofs.SlotContent.{next_pair-slots}
+use Rattle.kv_store.proofs.SlotContent.{first_live, next_pair-slots}
 use Rattle.kv_store.proofs.slots.SlotMap.next.Goals as goal
 
 pub loop-found-init : goal.loop-found-init

@@ -1,8 +1,9 @@
 use Rattle.std.proofs.Common.{◌≡◌, ap, sym, subst, refl, List, [], reverse}
 use Rattle.task_unit.specs.declared.acting.Undone.{Undone}
-use Rattle.task_unit.specs.Acting.{held, undos_of, IsSized, GoesBack}
+use Rattle.task_unit.specs.Acting.{held, undos_of, GoesBack}
+use Rattle.unit_logs.specs.Held.{IsSized, Held}
 use Rattle.task_unit.specs.declared.acting.Holdings.{Holdings}
-use Rattle.task_unit.specs.Held.{Held, LeadsTo}
+use Rattle.task_unit.specs.Held.{LeadsTo}
 use Rattle.task_unit.proofs.Made.{same_clean}
 use Rattle.task_unit.proofs.acting.Holdings.process.Goals as goal
 

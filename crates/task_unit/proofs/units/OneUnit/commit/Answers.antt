@@ -1,20 +1,21 @@
-use Rattle.std.proofs.Common.{ℕ, Bool, true, false, ◌≡◌, ◌≤◌, ◌<◌, ◌+◌, ◌∙◌, ap, inl, length, refl, sym, subst}
+use Rattle.std.proofs.Common.{ℕ, Bool, true, false, ◌≡◌, ◌≤◌, ◌<◌, ◌+◌, ◌∙◌, ap, length, Option, Some, IfSome, refl, sym, subst, arith}
 use Rattle.samza_model.specs.Content.{sent_at}
 use Rattle.samza_model.specs.Counters.{Rose}
-use Rattle.task_unit.specs.declared.faults.CommitFault.TheVariants.{Broken, Busy, Device, Failed, Limit, Windowing}
-use Rattle.task_unit.specs.Acting.{held, IsSized}
-use Rattle.task_unit.specs.Held.{Held, state_of}
-use Rattle.task_unit.specs.Crashes.{WriteLeaves}
+use Rattle.unit_logs.specs.declared.faults.CommitFault.TheVariants.{Broken, Busy, Device, Failed, Limit, Windowing}
+use Rattle.task_unit.specs.Acting.{held}
+use Rattle.unit_logs.specs.Held.{IsSized, Held, state_of, unlogged_of}
+use Rattle.unit_logs.specs.Commits.{IsCommitted, LeavesMade}
 use Rattle.restore_trim.specs.Standing.{OthersStay}
-use Rattle.task_unit.specs.Units.{IsCommitted, CommitLeaves, appended_at}
-use Rattle.samza_model.specs.Files.{Image}
-use Rattle.samza_model.specs.Restored.{Restores}
+use Rattle.samza_model.specs.declared.checkpoints.Checkpoint.{Checkpoint}
+use Rattle.output_log.specs.Outputs.{cleared_at}
+use Rattle.task_unit.specs.Units.{IsCommitOf, MadeLeaves, CrashLeaves, CommitPasses}
+use Rattle.samza_model.specs.Restored.{Restores, id_of}
+use Rattle.topic_log.specs.Opened.{count_of}
 use Rattle.disk_model.specs.Images.{LeavesOnly}
-use Rattle.disk_model.proofs.Moments.{started, weaker}
-use Rattle.task_unit.proofs.Committed.{stand_open, stands_made}
-use Rattle.task_unit.proofs.Survived.{unwritten_restores, task_grows, stand_with, plan_of, all_restores, write_restores, written_has}
-use Rattle.task_unit.specs.Growth.{PassesLimit}
-use Rattle.task_unit.proofs.Growing.{passes_limit, within_limit}
+use Rattle.unit_logs.proofs.Committed.{stand_open, stands_made}
+use Rattle.unit_logs.proofs.Finished.{others_still, still, commits, left_made, left_some, left_others}
+use Rattle.unit_logs.proofs.Growing.{passes_limit, within_limit}
+use Rattle.unit_logs.proofs.SetUps.{few_stores}
 use Rattle.task_unit.proofs.Flushed.{none_unlogged}
 use Rattle.task_unit.proofs.units.OneUnit.commit.Goals as goal
 
@@ -28,11 +29,197 @@ unbroken is not = broken_now (sym not ∙ is)
 device_alone : (Device ≡ Limit → ⊥) × (Device ≡ Broken → ⊥) × (Device ≡ Failed → ⊥) × (Device ≡ Windowing → ⊥) × ((n : ℕ) → Device ≡ Busy n → ⊥)
 device_alone = ((λ e. cc), (λ e. cc), (λ e. cc), (λ e. cc), λ n e. cc)
 
+pub write-requires-clause-planned : goal.write-requires-clause-planned
+write-requires-clause-planned g c κs within =
+    let inv = c.self.invariant in
+    let p = c.in_ok-plan.ensures in
+    record {
+      changes = p.stores.frames_are ∙ inv.sized.stores ∙ sym inv.changelogs_are;
+      sends = p.sends.frames_are ∙ inv.sized.outputs ∙ sym inv.outputs_are;
+      few = omega (arith, inv.changelogs_are, few_stores c.self.inside.setup inv.set_up);
+    }
+
 pub write-requires-clause-open : goal.write-requires-clause-open
 write-requires-clause-open g c κs within = λ told.
     let u = c.self.inside in
     let disk = g.D.Disk in
     stand_open u.setup (disk.reads u.disk) (disk.images u.disk) u.logs u.mark (held u.holdings) (c.self.invariant.stands c.if-self.false told) c.self.invariant.changelogs_are
+
+pub returns-clause-committed : goal.returns-clause-committed
+returns-clause-committed g c = λ told.
+    let u = c.self.inside in
+    let inv = c.self.invariant in
+    let disk = g.D.Disk in
+    let plan = c.in_ok-plan.plan in
+    let made = c.in_ok-plan.made in
+    let p = c.in_ok-plan.ensures in
+    let room = c.has_room.ensures.room c.if-not-has_room.false in
+    let h = held u.holdings in
+    let law = (g.met.D.Disk g.world.𝓛 g.world.𝓜 g.world.𝓡 ((λ s x. x), (λ x. x), (λ x. x), λ x. x)) in
+    let now = commits disk.reads disk.call_number disk.images disk.images_since u.disk u.setup u.logs plan u.mark u.next made h (inv.stands c.if-self.false told) room p inv.changelogs_are inv.outputs_are inv.sized (disk.reads c.write.new.disk) (disk.images c.write.new.disk) c.write.new.self (c.in-Ok.ensures.follows told) (disk.reads c.write.new.disk) (law.read_is_image c.write.new.disk told) in
+    (made, refl, subst (λ v. IsCommitOf v (disk.reads v.disk) (disk.reads c.write.new.disk) made) c.self.view_is now)
+
+pub returns-clause-durable : goal.returns-clause-durable
+returns-clause-durable g c = λ told other is f now.
+    let u = c.self.inside in
+    let inv = c.self.invariant in
+    let disk = g.D.Disk in
+    let plan = c.in_ok-plan.plan in
+    let made = c.in_ok-plan.made in
+    let p = c.in_ok-plan.ensures in
+    let room = c.has_room.ensures.room c.if-not-has_room.false in
+    let h = held u.holdings in
+    let here = commits disk.reads disk.call_number disk.images disk.images_since u.disk u.setup u.logs plan u.mark u.next made h (inv.stands c.if-self.false told) room p inv.changelogs_are inv.outputs_are inv.sized (disk.reads c.write.new.disk) (disk.images c.write.new.disk) c.write.new.self (c.in-Ok.ensures.follows told) f now in
+    let told_of = subst (λ (m : Option Checkpoint). IfSome m (λ k. IsCommitted u.setup (disk.reads u.disk) f u.mark u.next (state_of h) (unlogged_of h.stores) k)) is here in
+    subst (λ v. IsCommitOf v (disk.reads v.disk) f other) c.self.view_is told_of
+
+pub returns-clause-made_any_moment : goal.returns-clause-made_any_moment
+returns-clause-made_any_moment g c = λ told other is contents old.
+    let u = c.self.inside in
+    let inv = c.self.invariant in
+    let disk = g.D.Disk in
+    let plan = c.in_ok-plan.plan in
+    let made = c.in_ok-plan.made in
+    let p = c.in_ok-plan.ensures in
+    let room = c.has_room.ensures.room c.if-not-has_room.false in
+    let h = held u.holdings in
+    let here = left_made disk.reads disk.call_number disk.images disk.images_since u.disk u.setup u.logs plan u.mark u.next made h (inv.stands c.if-self.false told) room p inv.changelogs_are inv.outputs_are inv.sized c.write.new.disk (c.write.ensures.any_moment told) contents (subst (λ v. Restores v.setup (disk.reads v.disk) v.mark contents) (sym c.self.view_is) old) in
+    let told_of = subst (λ (m : Option Checkpoint). IfSome m (λ k. LeavesOnly disk.call_number disk.images disk.images_since u.disk c.write.new.disk (λ a f. LeavesMade u.setup (disk.reads u.disk) a f u.mark contents u.next (state_of h) (unlogged_of h.stores) k))) is here in
+    subst (λ v. LeavesOnly disk.call_number disk.images disk.images_since v.disk c.write.new.disk (MadeLeaves v (disk.reads v.disk) contents other)) c.self.view_is told_of
+
+pub returns-clause-any_moment : goal.returns-clause-any_moment
+returns-clause-any_moment g c = λ told sound contents old.
+    let u = c.self.inside in
+    let inv = c.self.invariant in
+    let disk = g.D.Disk in
+    let plan = c.in_ok-plan.plan in
+    let made = c.in_ok-plan.made in
+    let p = c.in_ok-plan.ensures in
+    let room = c.has_room.ensures.room c.if-not-has_room.false in
+    let h = held u.holdings in
+    subst (λ v. LeavesOnly disk.call_number disk.images disk.images_since v.disk c.write.new.disk (CrashLeaves v (disk.reads v.disk) contents)) c.self.view_is
+    (left_some disk.reads disk.call_number disk.images disk.images_since u.disk u.setup u.logs plan u.mark u.next made h (inv.stands c.if-self.false told) room p inv.changelogs_are inv.outputs_are inv.sized c.write.new.disk (c.write.ensures.any_moment told) contents (subst (λ v. Restores v.setup (disk.reads v.disk) v.mark contents) (sym c.self.view_is) old))
+
+pub returns-clause-others_any_moment : goal.returns-clause-others_any_moment
+returns-clause-others_any_moment g c = λ told.
+    let u = c.self.inside in
+    let inv = c.self.invariant in
+    let disk = g.D.Disk in
+    let plan = c.in_ok-plan.plan in
+    let made = c.in_ok-plan.made in
+    let p = c.in_ok-plan.ensures in
+    let room = c.has_room.ensures.room c.if-not-has_room.false in
+    let h = held u.holdings in
+    subst (λ v. LeavesOnly disk.call_number disk.images disk.images_since v.disk c.write.new.disk (OthersStay (length v.setup.stores) (length v.setup.outputs))) c.self.view_is
+    (left_others disk.reads disk.call_number disk.images disk.images_since u.disk u.setup u.logs plan u.mark u.next made h (inv.stands c.if-self.false told) room p inv.changelogs_are inv.outputs_are inv.sized c.write.new.disk (c.write.ensures.any_moment told))
+
+pub returns-in-Err-clause-any_moment : goal.returns-in-Err-clause-any_moment
+returns-in-Err-clause-any_moment g c = λ told sound contents old.
+    let u = c.self.inside in
+    let inv = c.self.invariant in
+    let disk = g.D.Disk in
+    let plan = c.in_ok-plan.plan in
+    let made = c.in_ok-plan.made in
+    let p = c.in_ok-plan.ensures in
+    let room = c.has_room.ensures.room c.if-not-has_room.false in
+    let h = held u.holdings in
+    subst (λ v. LeavesOnly disk.call_number disk.images disk.images_since v.disk c.write.new.disk (CrashLeaves v (disk.reads v.disk) contents)) c.self.view_is
+    (left_some disk.reads disk.call_number disk.images disk.images_since u.disk u.setup u.logs plan u.mark u.next made h (inv.stands c.if-self.false told) room p inv.changelogs_are inv.outputs_are inv.sized c.write.new.disk (c.write.ensures.any_moment told) contents (subst (λ v. Restores v.setup (disk.reads v.disk) v.mark contents) (sym c.self.view_is) old))
+
+pub returns-in-Err-clause-others_any_moment : goal.returns-in-Err-clause-others_any_moment
+returns-in-Err-clause-others_any_moment g c = λ told.
+    let u = c.self.inside in
+    let inv = c.self.invariant in
+    let disk = g.D.Disk in
+    let plan = c.in_ok-plan.plan in
+    let made = c.in_ok-plan.made in
+    let p = c.in_ok-plan.ensures in
+    let room = c.has_room.ensures.room c.if-not-has_room.false in
+    let h = held u.holdings in
+    subst (λ v. LeavesOnly disk.call_number disk.images disk.images_since v.disk c.write.new.disk (OthersStay (length v.setup.stores) (length v.setup.outputs))) c.self.view_is
+    (left_others disk.reads disk.call_number disk.images disk.images_since u.disk u.setup u.logs plan u.mark u.next made h (inv.stands c.if-self.false told) room p inv.changelogs_are inv.outputs_are inv.sized c.write.new.disk (c.write.ensures.any_moment told))
+
+pub returns-in_err-plan-clause-any_moment : goal.returns-in_err-plan-clause-any_moment
+returns-in_err-plan-clause-any_moment g c = λ told sound contents old.
+    let u = c.self.inside in
+    let inv = c.self.invariant in
+    let disk = g.D.Disk in
+    let law = (g.met.D.Disk g.world.𝓛 g.world.𝓜 g.world.𝓡 ((λ s x. x), (λ x. x), (λ x. x), λ x. x)) in
+    subst (λ v. LeavesOnly disk.call_number disk.images disk.images_since v.disk v.disk (CrashLeaves v (disk.reads v.disk) contents)) c.self.view_is
+    (still disk.reads disk.call_number disk.images disk.images_since u.disk u.setup u.logs u.mark u.next (held u.holdings) (inv.stands c.if-self.false told) inv.outputs_are (λ f left. law.only_now u.disk f told left) contents
+    (subst (λ v. Restores v.setup (disk.reads v.disk) v.mark contents) (sym c.self.view_is) old))
+
+pub returns-then-not-has_room-clause-any_moment : goal.returns-then-not-has_room-clause-any_moment
+returns-then-not-has_room-clause-any_moment g c = λ told sound contents old.
+    let u = c.self.inside in
+    let inv = c.self.invariant in
+    let disk = g.D.Disk in
+    let law = (g.met.D.Disk g.world.𝓛 g.world.𝓜 g.world.𝓡 ((λ s x. x), (λ x. x), (λ x. x), λ x. x)) in
+    subst (λ v. LeavesOnly disk.call_number disk.images disk.images_since v.disk v.disk (CrashLeaves v (disk.reads v.disk) contents)) c.self.view_is
+    (still disk.reads disk.call_number disk.images disk.images_since u.disk u.setup u.logs u.mark u.next (held u.holdings) (inv.stands c.if-self.false told) inv.outputs_are (λ f left. law.only_now u.disk f told left) contents
+    (subst (λ v. Restores v.setup (disk.reads v.disk) v.mark contents) (sym c.self.view_is) old))
+
+pub returns-then-self-clause-others_any_moment : goal.returns-then-self-clause-others_any_moment
+returns-then-self-clause-others_any_moment g c = λ told.
+    let u = c.self.inside in
+    let disk = g.D.Disk in
+    let law = (g.met.D.Disk g.world.𝓛 g.world.𝓜 g.world.𝓡 ((λ s x. x), (λ x. x), (λ x. x), λ x. x)) in
+    subst (λ v. LeavesOnly disk.call_number disk.images disk.images_since v.disk v.disk (OthersStay (length v.setup.stores) (length v.setup.outputs))) c.self.view_is
+    (others_still disk.reads disk.call_number disk.images disk.images_since u.disk (length u.setup.stores) (length u.setup.outputs) (λ f left. law.only_now u.disk f told left))
+
+pub returns-in_err-plan-clause-others_any_moment : goal.returns-in_err-plan-clause-others_any_moment
+returns-in_err-plan-clause-others_any_moment g c = λ told.
+    let u = c.self.inside in
+    let disk = g.D.Disk in
+    let law = (g.met.D.Disk g.world.𝓛 g.world.𝓜 g.world.𝓡 ((λ s x. x), (λ x. x), (λ x. x), λ x. x)) in
+    subst (λ v. LeavesOnly disk.call_number disk.images disk.images_since v.disk v.disk (OthersStay (length v.setup.stores) (length v.setup.outputs))) c.self.view_is
+    (others_still disk.reads disk.call_number disk.images disk.images_since u.disk (length u.setup.stores) (length u.setup.outputs) (λ f left. law.only_now u.disk f told left))
+
+pub returns-then-not-has_room-clause-others_any_moment : goal.returns-then-not-has_room-clause-others_any_moment
+returns-then-not-has_room-clause-others_any_moment g c = λ told.
+    let u = c.self.inside in
+    let disk = g.D.Disk in
+    let law = (g.met.D.Disk g.world.𝓛 g.world.𝓜 g.world.𝓡 ((λ s x. x), (λ x. x), (λ x. x), λ x. x)) in
+    subst (λ v. LeavesOnly disk.call_number disk.images disk.images_since v.disk v.disk (OthersStay (length v.setup.stores) (length v.setup.outputs))) c.self.view_is
+    (others_still disk.reads disk.call_number disk.images disk.images_since u.disk (length u.setup.stores) (length u.setup.outputs) (λ f left. law.only_now u.disk f told left))
+
+pub returns-then-not-has_room-clause-limit : goal.returns-then-not-has_room-clause-limit
+returns-then-not-has_room-clause-limit g c = λ is told.
+    let u = c.self.inside in
+    let inv = c.self.invariant in
+    let disk = g.D.Disk in
+    let plan = c.in_ok-plan.plan in
+    let made = c.in_ok-plan.made in
+    let p = c.in_ok-plan.ensures in
+    let h = held u.holdings in
+    subst (λ v. CommitPasses v (disk.reads v.disk)) c.self.view_is
+    (passes_limit u.setup (disk.reads u.disk) (disk.images u.disk) u.logs plan u.mark u.next made h (inv.stands c.if-self.false told) p inv.changelogs_are inv.outputs_are inv.sized (c.has_room.ensures.none c.if-not-has_room.true))
+
+pub returns-clause-room : goal.returns-clause-room
+returns-clause-room g c = λ told passes.
+    let u = c.self.inside in
+    let inv = c.self.invariant in
+    let disk = g.D.Disk in
+    let plan = c.in_ok-plan.plan in
+    let made = c.in_ok-plan.made in
+    let p = c.in_ok-plan.ensures in
+    let room = c.has_room.ensures.room c.if-not-has_room.false in
+    let h = held u.holdings in
+    within_limit u.setup (disk.reads u.disk) (disk.images u.disk) u.logs plan u.mark u.next made h (inv.stands c.if-self.false told) p inv.changelogs_are inv.outputs_are inv.sized room
+    (subst (λ v. CommitPasses v (disk.reads v.disk)) (sym c.self.view_is) passes)
+
+pub returns-in-Err-clause-tested : goal.returns-in-Err-clause-tested
+returns-in-Err-clause-tested g c = λ _ told passes.
+    let u = c.self.inside in
+    let inv = c.self.invariant in
+    let disk = g.D.Disk in
+    let plan = c.in_ok-plan.plan in
+    let made = c.in_ok-plan.made in
+    let p = c.in_ok-plan.ensures in
+    let room = c.has_room.ensures.room c.if-not-has_room.false in
+    let h = held u.holdings in
+    within_limit u.setup (disk.reads u.disk) (disk.images u.disk) u.logs plan u.mark u.next made h (inv.stands c.if-self.false told) p inv.changelogs_are inv.outputs_are inv.sized room
+    (subst (λ v. CommitPasses v (disk.reads v.disk)) (sym c.self.view_is) passes)
 
 pub invariant_of-self-2 : goal.invariant_of-self-2
 invariant_of-self-2 g c =
@@ -56,168 +243,17 @@ invariant_of-self-2 g c =
       begins = inv.begins;
       within = inv.within;
       sound = λ _. w.sound;
-      stands = λ _ told. stands_made u.setup (disk.reads u.disk) (disk.reads c.write.new.disk) (disk.images u.disk) (disk.images c.write.new.disk) u.logs c.write.new.self plan u.mark made (held u.holdings)
-          (inv.stands c.if-self.false told) (w.follows told) room p.stores p.sends p.frame p.named p.id inv.changelogs_are inv.outputs_are w.outputs inv.sized
+      counted = λ _. w.counted ∙ ap (λ n. count_of u.logs.marks + n) p.frame.2.count_is ∙ sym p.id_is;
+      stands = λ _ told. stands_made u.setup (disk.reads u.disk) (disk.reads c.write.new.disk) (disk.images u.disk) (disk.images c.write.new.disk) u.logs c.write.new.self plan u.mark u.next made (held u.holdings)
+          (inv.stands c.if-self.false told) (w.follows told) room p inv.changelogs_are inv.outputs_are w.outputs inv.sized
           held' sized' c.flush_all.ensures.contents;
     }
-
-pub returns-clause-durable : goal.returns-clause-durable
-returns-clause-durable g c = λ told.
-    let u = c.self.inside in
-    let inv = c.self.invariant in
-    let disk = g.D.Disk in
-    let plan = c.in_ok-plan.plan in
-    let made = c.in_ok-plan.made in
-    let p = c.in_ok-plan.ensures in
-    let room = c.has_room.ensures.room c.if-not-has_room.false in
-    let reads = disk.reads u.disk in
-    let images = disk.images u.disk in
-    let h = held u.holdings in
-    let grows = task_grows u.setup reads images u.logs plan u.mark made h (inv.stands c.if-self.false told) room p.stores p.sends p.frame p.id inv.changelogs_are inv.outputs_are inv.sized in
-    let w = c.in-Ok.ensures in
-    let made_in = λ (f : Image) (now : disk.images c.write.new.disk f).
-    all_restores u.setup reads images u.logs plan u.mark made h grows.0 grows.1 grows.2 inv.changelogs_are inv.outputs_are f u.next inv.sized p.named p.next
-    (written_has u.setup reads images u.logs plan u.mark made h grows.0 grows.1 grows.2 inv.changelogs_are inv.outputs_are (disk.reads c.write.new.disk) (disk.images c.write.new.disk) c.write.new.self (w.follows told) f now) in
-    (made, refl, λ f now. subst (λ v. IsCommitted v.setup (disk.reads v.disk) f v.mark v.next v.state made) c.self.view_is (made_in f now))
-
-pub returns-clause-committed : goal.returns-clause-committed
-returns-clause-committed g c = λ told.
-    let u = c.self.inside in
-    let inv = c.self.invariant in
-    let disk = g.D.Disk in
-    let plan = c.in_ok-plan.plan in
-    let made = c.in_ok-plan.made in
-    let p = c.in_ok-plan.ensures in
-    let room = c.has_room.ensures.room c.if-not-has_room.false in
-    let reads = disk.reads u.disk in
-    let images = disk.images u.disk in
-    let h = held u.holdings in
-    let grows = task_grows u.setup reads images u.logs plan u.mark made h (inv.stands c.if-self.false told) room p.stores p.sends p.frame p.id inv.changelogs_are inv.outputs_are inv.sized in
-    let w = c.in-Ok.ensures in
-    let made_in = λ (f : Image) (now : disk.images c.write.new.disk f).
-    all_restores u.setup reads images u.logs plan u.mark made h grows.0 grows.1 grows.2 inv.changelogs_are inv.outputs_are f u.next inv.sized p.named p.next
-    (written_has u.setup reads images u.logs plan u.mark made h grows.0 grows.1 grows.2 inv.changelogs_are inv.outputs_are (disk.reads c.write.new.disk) (disk.images c.write.new.disk) c.write.new.self (w.follows told) f now) in
-    let law = (g.met.D.Disk g.world.𝓛 g.world.𝓜 g.world.𝓡 ((λ s x. x), (λ x. x), (λ x. x), λ x. x)) in
-    (made, refl, subst (λ v. IsCommitted v.setup (disk.reads v.disk) (disk.reads c.write.new.disk) v.mark v.next v.state made) c.self.view_is (made_in (disk.reads c.write.new.disk) (law.read_is_image c.write.new.disk told)))
 
 pub returns-clause-flushed : goal.returns-clause-flushed
 returns-clause-flushed g c = λ i lt.
     let stores = c.flush_all.new.stores.items in
     let inside : i < length stores = subst (λ n. i < n) (sym (c.flush_all.ensures.as_many ∙ c.self.invariant.sized.stores ∙ ap (λ v. length v.setup.stores) c.self.view_is)) lt in
     none_unlogged stores i inside (c.flush_all.ensures.clean i inside)
-
-pub returns-then-not-has_room-clause-limit : goal.returns-then-not-has_room-clause-limit
-returns-then-not-has_room-clause-limit g c = λ is told.
-    let u = c.self.inside in
-    let inv = c.self.invariant in
-    let disk = g.D.Disk in
-    let plan = c.in_ok-plan.plan in
-    let made = c.in_ok-plan.made in
-    let p = c.in_ok-plan.ensures in
-    subst (λ v. PassesLimit v.setup (disk.reads v.disk) v.unlogged v.state.sent) c.self.view_is
-    (passes_limit u.setup (disk.reads u.disk) (disk.images u.disk) u.logs plan u.mark made (held u.holdings) (inv.stands c.if-self.false told) p.stores p.sends p.frame p.named inv.changelogs_are inv.outputs_are inv.sized (c.has_room.ensures.none c.if-not-has_room.true))
-
-pub returns-clause-room : goal.returns-clause-room
-returns-clause-room g c = λ told passes.
-    let u = c.self.inside in
-    let inv = c.self.invariant in
-    let disk = g.D.Disk in
-    let plan = c.in_ok-plan.plan in
-    let made = c.in_ok-plan.made in
-    let p = c.in_ok-plan.ensures in
-    within_limit u.setup (disk.reads u.disk) (disk.images u.disk) u.logs plan u.mark made (held u.holdings) (inv.stands c.if-self.false told) p.stores p.sends p.frame p.named inv.changelogs_are inv.outputs_are inv.sized (c.has_room.ensures.room c.if-not-has_room.false)
-    (subst (λ v. PassesLimit v.setup (disk.reads v.disk) v.unlogged v.state.sent) (sym c.self.view_is) passes)
-
-pub returns-in-Err-clause-tested : goal.returns-in-Err-clause-tested
-returns-in-Err-clause-tested g c = λ _ told passes.
-    let u = c.self.inside in
-    let inv = c.self.invariant in
-    let disk = g.D.Disk in
-    let plan = c.in_ok-plan.plan in
-    let made = c.in_ok-plan.made in
-    let p = c.in_ok-plan.ensures in
-    within_limit u.setup (disk.reads u.disk) (disk.images u.disk) u.logs plan u.mark made (held u.holdings) (inv.stands c.if-self.false told) p.stores p.sends p.frame p.named inv.changelogs_are inv.outputs_are inv.sized (c.has_room.ensures.room c.if-not-has_room.false)
-    (subst (λ v. PassesLimit v.setup (disk.reads v.disk) v.unlogged v.state.sent) (sym c.self.view_is) passes)
-
-pub returns-clause-any_moment : goal.returns-clause-any_moment
-returns-clause-any_moment g c = λ told sound contents old.
-    let u = c.self.inside in
-    let inv = c.self.invariant in
-    let disk = g.D.Disk in
-    let plan = c.in_ok-plan.plan in
-    let made = c.in_ok-plan.made in
-    let p = c.in_ok-plan.ensures in
-    let room = c.has_room.ensures.room c.if-not-has_room.false in
-    let reads = disk.reads u.disk in
-    let images = disk.images u.disk in
-    let h = held u.holdings in
-    let grows = task_grows u.setup reads images u.logs plan u.mark made h (inv.stands c.if-self.false told) room p.stores p.sends p.frame p.id inv.changelogs_are inv.outputs_are inv.sized in
-    let n = length u.logs.changelogs.items in
-    let m = length u.logs.outputs.items in
-    subst (λ v. LeavesOnly disk.call_number disk.images disk.images_since v.disk c.write.new.disk (λ _ f. CommitLeaves v.setup (disk.reads v.disk) f v.mark contents v.next v.state)) c.self.view_is
-    (weaker disk.call_number disk.images disk.images_since u.disk c.write.new.disk (WriteLeaves n m grows.0 grows.1) (λ _ f. CommitLeaves u.setup reads f u.mark contents u.next (state_of h))
-    (c.write.ensures.any_moment told grows.0 grows.1
-    (stand_with u.setup reads images u.logs plan u.mark made h grows.0 grows.1 grows.2 inv.changelogs_are inv.outputs_are)
-    (plan_of u.setup reads images u.logs plan u.mark made h grows.0 grows.1 grows.2 inv.changelogs_are inv.outputs_are))
-    (λ a f now step. write_restores u.setup reads images u.logs plan u.mark made h grows.0 grows.1 grows.2 inv.changelogs_are inv.outputs_are a f contents u.next inv.sized p.named p.next
-    (subst (λ v. Restores v.setup (disk.reads v.disk) v.mark contents) (sym c.self.view_is) old) step))
-
-pub returns-in-Err-clause-any_moment : goal.returns-in-Err-clause-any_moment
-returns-in-Err-clause-any_moment g c = λ told sound contents old.
-    let u = c.self.inside in
-    let inv = c.self.invariant in
-    let disk = g.D.Disk in
-    let plan = c.in_ok-plan.plan in
-    let made = c.in_ok-plan.made in
-    let p = c.in_ok-plan.ensures in
-    let room = c.has_room.ensures.room c.if-not-has_room.false in
-    let reads = disk.reads u.disk in
-    let images = disk.images u.disk in
-    let h = held u.holdings in
-    let grows = task_grows u.setup reads images u.logs plan u.mark made h (inv.stands c.if-self.false told) room p.stores p.sends p.frame p.id inv.changelogs_are inv.outputs_are inv.sized in
-    let n = length u.logs.changelogs.items in
-    let m = length u.logs.outputs.items in
-    subst (λ v. LeavesOnly disk.call_number disk.images disk.images_since v.disk c.write.new.disk (λ _ f. CommitLeaves v.setup (disk.reads v.disk) f v.mark contents v.next v.state)) c.self.view_is
-    (weaker disk.call_number disk.images disk.images_since u.disk c.write.new.disk (WriteLeaves n m grows.0 grows.1) (λ _ f. CommitLeaves u.setup reads f u.mark contents u.next (state_of h))
-    (c.write.ensures.any_moment told grows.0 grows.1
-    (stand_with u.setup reads images u.logs plan u.mark made h grows.0 grows.1 grows.2 inv.changelogs_are inv.outputs_are)
-    (plan_of u.setup reads images u.logs plan u.mark made h grows.0 grows.1 grows.2 inv.changelogs_are inv.outputs_are))
-    (λ a f now step. write_restores u.setup reads images u.logs plan u.mark made h grows.0 grows.1 grows.2 inv.changelogs_are inv.outputs_are a f contents u.next inv.sized p.named p.next
-    (subst (λ v. Restores v.setup (disk.reads v.disk) v.mark contents) (sym c.self.view_is) old) step))
-
-pub returns-in_err-plan-clause-any_moment : goal.returns-in_err-plan-clause-any_moment
-returns-in_err-plan-clause-any_moment g c = λ told sound contents old.
-    let u = c.self.inside in
-    let inv = c.self.invariant in
-    let disk = g.D.Disk in
-    let law = (g.met.D.Disk g.world.𝓛 g.world.𝓜 g.world.𝓡 ((λ s x. x), (λ x. x), (λ x. x), λ x. x)) in
-    let reads = disk.reads u.disk in
-    let h = held u.holdings in
-    subst (λ v. LeavesOnly disk.call_number disk.images disk.images_since v.disk v.disk (λ _ f. CommitLeaves v.setup (disk.reads v.disk) f v.mark contents v.next v.state)) c.self.view_is
-    (started disk.call_number disk.images disk.images_since u.disk (λ _ f. CommitLeaves u.setup reads f u.mark contents u.next (state_of h)) (λ f left. law.only_now u.disk f told left)
-    (λ f now. (
-      f,
-      now,
-      inl (unwritten_restores u.setup reads (disk.images u.disk) u.logs u.mark h (inv.stands c.if-self.false told) inv.outputs_are contents
-          (subst (λ v. Restores v.setup (disk.reads v.disk) v.mark contents) (sym c.self.view_is) old) f now),
-    )))
-
-pub returns-then-not-has_room-clause-any_moment : goal.returns-then-not-has_room-clause-any_moment
-returns-then-not-has_room-clause-any_moment g c = λ told sound contents old.
-    let u = c.self.inside in
-    let inv = c.self.invariant in
-    let disk = g.D.Disk in
-    let law = (g.met.D.Disk g.world.𝓛 g.world.𝓜 g.world.𝓡 ((λ s x. x), (λ x. x), (λ x. x), λ x. x)) in
-    let reads = disk.reads u.disk in
-    let h = held u.holdings in
-    subst (λ v. LeavesOnly disk.call_number disk.images disk.images_since v.disk v.disk (λ _ f. CommitLeaves v.setup (disk.reads v.disk) f v.mark contents v.next v.state)) c.self.view_is
-    (started disk.call_number disk.images disk.images_since u.disk (λ _ f. CommitLeaves u.setup reads f u.mark contents u.next (state_of h)) (λ f left. law.only_now u.disk f told left)
-    (λ f now. (
-      f,
-      now,
-      inl (unwritten_restores u.setup reads (disk.images u.disk) u.logs u.mark h (inv.stands c.if-self.false told) inv.outputs_are contents
-          (subst (λ v. Restores v.setup (disk.reads v.disk) v.mark contents) (sym c.self.view_is) old) f now),
-    )))
 
 pub returns-clause-others : goal.returns-clause-others
 returns-clause-others g c = λ told.
@@ -240,6 +276,7 @@ invariant_of-self g c =
       begins = inv.begins;
       within = inv.within;
       sound = λ b. absurd (broken_now b);
+      counted = λ b. absurd (broken_now b);
       stands = λ b. absurd (broken_now b);
     }
 
@@ -250,7 +287,7 @@ pub returns-in-Err-clause-kept : goal.returns-in-Err-clause-kept
 returns-in-Err-clause-kept g c = (ap (λ v. v.next) c.self.view_is, ap (λ v. v.state.stores) c.self.view_is)
 
 pub returns-in-Err-clause-unmade : goal.returns-in-Err-clause-unmade
-returns-in-Err-clause-unmade g c = (ap (λ v. v.state) c.self.view_is, ap (λ v. v.unlogged) c.self.view_is, ap (λ v. v.mark) c.self.view_is, ap (λ v. v.appended) c.self.view_is)
+returns-in-Err-clause-unmade g c = (ap (λ v. v.state) c.self.view_is, ap (λ v. v.unlogged) c.self.view_is, ap (λ v. v.mark) c.self.view_is, ap (λ v. v.cleared) c.self.view_is)
 
 pub returns-in-Err-clause-refused : goal.returns-in-Err-clause-refused
 returns-in-Err-clause-refused g c = λ other. absurd (other c.in-Err.ensures.device.0)
@@ -301,4 +338,12 @@ pub returns-clause-cleared : goal.returns-clause-cleared
 returns-clause-cleared g c = λ j lt. c.clear.ensures.cleared.none j (subst (λ n. j < n) (sym (c.self.invariant.sized.outputs ∙ ap (λ v. length v.setup.outputs) c.self.view_is)) lt)
 
 pub returns-clause-counted : goal.returns-clause-counted
-returns-clause-counted g c = λ j lt. subst (λ v. appended_at c.clear.new.self.cleared j ≡ appended_at v.appended j + length (sent_at v.state.sent j)) c.self.view_is (c.clear.ensures.cleared.counted j (subst (λ n. j < n) (sym (c.self.invariant.sized.outputs ∙ ap (λ v. length v.setup.outputs) c.self.view_is)) lt))
+returns-clause-counted g c = λ j lt. subst (λ v. cleared_at c.clear.new.self.cleared j ≡ cleared_at v.cleared j + length (sent_at v.state.sent j)) c.self.view_is (c.clear.ensures.cleared.counted j (subst (λ n. j < n) (sym (c.self.invariant.sized.outputs ∙ ap (λ v. length v.setup.outputs) c.self.view_is)) lt))
+
+pub returns-clause-numbered : goal.returns-clause-numbered
+returns-clause-numbered g c =
+    let u = c.self.inside in
+    c.in_ok-plan.ensures.id_is ∙ ap (λ n. n + 1) (c.self.invariant.counted c.if-self.false ∙ ap (λ v. id_of v.mark) c.self.view_is)
+
+pub returns-clause-covers : goal.returns-clause-covers
+returns-clause-covers g c = c.in_ok-plan.ensures.next_is ∙ ap (λ v. Some v.next) c.self.view_is

@@ -3,7 +3,7 @@ use Rattle.samza_model.specs.declared.messages.Record.{Record}
 use Rattle.samza_model.specs.Meaning.{Meaning}
 use Rattle.samza_model.specs.Runs.{runs}
 use Rattle.task_unit.specs.Acting.{held, AreTouched}
-use Rattle.task_unit.specs.Held.{Held, state_of, unlogged_of}
+use Rattle.unit_logs.specs.Held.{Held, state_of, unlogged_of}
 use Rattle.task_unit.specs.Touched.{acts_of}
 use Rattle.task_unit.specs.Units.{IsMessage, IsProcessed}
 use Rattle.task_unit.proofs.Touching.{unlogged_behind}
@@ -25,6 +25,7 @@ invariant_of-self g c =
       begins = omega (arith, inv.begins);
       within = omega (arith, below, c.as_slice.ensures.len, inv.within);
       sound = inv.sound;
+      counted = inv.counted;
       stands = λ b told. stands_kept (disk.reads u.disk) (disk.images u.disk) u.setup u.logs u.mark (held u.holdings) (held c.process.new.self) (inv.stands b told) c.in-Ok-None.ensures.clean;
     }
 
@@ -62,7 +63,7 @@ pub returns-in-Ok-None-clause-mark : goal.returns-in-Ok-None-clause-mark
 returns-in-Ok-None-clause-mark g c = (ap (λ v. v.mark) c.self.view_is, ap (λ v. v.broken) c.self.view_is)
 
 pub returns-in-Ok-None-clause-appended : goal.returns-in-Ok-None-clause-appended
-returns-in-Ok-None-clause-appended g c = c.in-Ok-None.ensures.counts ∙ ap (λ v. v.appended) c.self.view_is
+returns-in-Ok-None-clause-appended g c = c.in-Ok-None.ensures.counts ∙ ap (λ v. v.cleared) c.self.view_is
 
 pub returns-in-Ok-Some-clause-given : goal.returns-in-Ok-Some-clause-given
 returns-in-Ok-Some-clause-given g c = (ap (λ v. v.job) c.self.view_is, ap (λ v. v.setup) c.self.view_is, ap (λ v. v.messages) c.self.view_is, ap (λ v. v.begun) c.self.view_is)
@@ -77,7 +78,7 @@ pub returns-in-Ok-Some-clause-mark : goal.returns-in-Ok-Some-clause-mark
 returns-in-Ok-Some-clause-mark g c = (ap (λ v. v.mark) c.self.view_is, ap (λ v. v.broken) c.self.view_is)
 
 pub returns-in-Ok-Some-clause-appended : goal.returns-in-Ok-Some-clause-appended
-returns-in-Ok-Some-clause-appended g c = c.in-Ok-Some.ensures.counts ∙ ap (λ v. v.appended) c.self.view_is
+returns-in-Ok-Some-clause-appended g c = c.in-Ok-Some.ensures.counts ∙ ap (λ v. v.cleared) c.self.view_is
 
 pub returns-clause-given : goal.returns-clause-given
 returns-clause-given g c = (ap (λ v. v.job) c.self.view_is, ap (λ v. v.setup) c.self.view_is, ap (λ v. v.messages) c.self.view_is, ap (λ v. v.begun) c.self.view_is)
@@ -92,7 +93,7 @@ pub returns-clause-mark : goal.returns-clause-mark
 returns-clause-mark g c = (ap (λ v. v.mark) c.self.view_is, ap (λ v. v.broken) c.self.view_is)
 
 pub returns-clause-appended : goal.returns-clause-appended
-returns-clause-appended g c = c.in-Err.ensures.counts ∙ ap (λ v. v.appended) c.self.view_is
+returns-clause-appended g c = c.in-Err.ensures.counts ∙ ap (λ v. v.cleared) c.self.view_is
 
 pub returns-in-Ok-None-clause-end : goal.returns-in-Ok-None-clause-end
 returns-in-Ok-None-clause-end g c = λ is. absurd (cc)
@@ -112,5 +113,6 @@ invariant_of-self-in-Ok-Some g c =
       begins = inv.begins;
       within = inv.within;
       sound = inv.sound;
+      counted = inv.counted;
       stands = λ b told. stands_kept (disk.reads u.disk) (disk.images u.disk) u.setup u.logs u.mark (held u.holdings) (held c.process.new.self) (inv.stands b told) e.clean;
     }

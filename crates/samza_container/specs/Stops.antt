@@ -1,0 +1,8 @@
+-- The status of a command before anything is printed.
+use Rattle.std.specs.Prelude.{ℕ, Result, Ok, Err}
+use Rattle.samza_container.specs.declared.faults.Stopped.{Stopped}
+use Rattle.samza_container.specs.Causes.{status_of}
+
+abbrev pub stops_with : {A : Type 0} → Result A Stopped → ℕ
+stops_with (Ok x) = 0
+stops_with (Err s) = status_of s.fault

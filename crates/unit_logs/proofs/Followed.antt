@@ -1,0 +1,43 @@
+-- What a commit makes of the records of a log, from what it makes of its frames.
+use Rattle.std.proofs.Common.{ℕ, ◌<◌, ◌⊎◌, inl, inr, List, ◌++◌, length, Option, sym, ◌∙◌, ap}
+use Rattle.samza_model.specs.declared.messages.Record.{Record}
+use Rattle.samza_model.specs.declared.checkpoints.Checkpoint.{Checkpoint}
+use Rattle.samza_model.specs.declared.setups.Setup.{Setup}
+use Rattle.samza_model.specs.Content.{Content, State, sent_at}
+use Rattle.samza_model.specs.Files.{Image, output_file}
+use Rattle.samza_model.specs.Logs.{joined, HasLog}
+use Rattle.topic_log.proofs.Spelling.{joined-append}
+use Rattle.unit_logs.specs.Commits.{IsFollowed, IsCommitted, IsUncommitted}
+
+-- records that stand behind those that a log had
+pub follows_log : (most : ℕ) (records had : List Record) (before after : List ℕ) → IsFollowed most records before after → HasLog before had → HasLog after (had ++ records)
+follows_log most records had before after follows log =
+    let f = follows log.frames log.has in
+    record {
+      frames = log.frames ++ f.0;
+      has = f.2;
+      records_are =
+          ap (λ (l : List Record). l ++ records) log.records_are ∙ ap (λ (l : List Record). joined log.frames ++ l) (sym f.1.whole)
+          ∙ sym (joined-append log.frames f.0);
+    }
+
+-- behind each output's records stand those that it was sent
+pub sends_follow : (s : Setup) (before after : Image) (mark : Option Checkpoint) (next : ℕ) (state : State) (unlogged : List (List Record)) (made : Checkpoint)
+    → IsCommitted s before after mark next state unlogged made → (j : ℕ) (had : List Record) → j < length s.outputs → HasLog (before (output_file j)) had
+    → HasLog (after (output_file j)) (had ++ sent_at state.sent j)
+sends_follow s before after mark next state unlogged made is j had lt log = follows_log _ (sent_at state.sent j) had (before (output_file j)) (after (output_file j)) (is.sends j lt) log
+
+-- each output's records are those that it had, or behind these stand those that it was sent
+pub sends_may_follow : (s : Setup) (before after : Image) (mark : Option Checkpoint) (contents : List Content) (unlogged unsent : List (List Record))
+    → IsUncommitted s before after mark contents unlogged unsent → (j : ℕ) (had : List Record) → j < length s.outputs → HasLog (before (output_file j)) had
+    → HasLog (after (output_file j)) had ⊎ HasLog (after (output_file j)) (had ++ sent_at unsent j)
+sends_may_follow s before after mark contents unlogged unsent is j had lt log = elim (is.sends j lt log.frames log.has) [
+  | inl same ↦ inl (record { frames = log.frames; has = same; records_are = log.records_are })
+  | inr more ↦ inr (record {
+    frames = log.frames ++ more.0;
+    has = more.2;
+    records_are =
+        ap (λ (l : List Record). l ++ sent_at unsent j) log.records_are ∙ ap (λ (l : List Record). joined log.frames ++ l) (sym more.1.whole)
+        ∙ sym (joined-append log.frames more.0);
+  })
+]

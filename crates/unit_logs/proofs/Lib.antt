@@ -1,0 +1,13 @@
+mod Appended
+pub mod Committed
+pub mod Finished
+pub mod Followed
+pub mod Growing
+pub mod Holding
+mod Kept
+mod MarkSizes
+mod Moments
+mod Others
+mod PlansSoFar
+pub mod SetUps
+pub mod Survived

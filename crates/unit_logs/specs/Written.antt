@@ -1,0 +1,57 @@
+-- What a commit writes to a task's logs.
+use Rattle.std.specs.Prelude.{◌≡◌, ◌≤◌, ◌⊎◌, false, List, [], ◌∷◌, ◌++◌, length}
+use Rattle.samza_model.specs.declared.messages.Record.{Record}
+use Rattle.samza_model.specs.Files.{Image, checkpoint_file, changelog_file, output_file}
+use Rattle.log_frame.specs.Frame.{FrameView, IsFrame}
+use Rattle.topic_log.specs.declared.logs.Log.{Log}
+use Rattle.topic_log.specs.Growth.{HasRoom, LacksRoom}
+use Rattle.topic_log.specs.Opened.{is_broken, size_of}
+use Rattle.unit_logs.specs.Appending.{AreOpen, AreAppended}
+use Rattle.unit_logs.specs.Room.{HaveRoom, OneLacksRoom}
+use Rattle.restore_trim.specs.Standing.{IsOpenAt, AllSound}
+use Rattle.unit_logs.specs.declared.writing.Logs.{Logs}
+use Rattle.unit_logs.specs.declared.writing.Plan.{Plan}
+
+-- no call on a log answered Device
+pub record AreSound (logs : Logs) : Type 0 where
+  pub marks : is_broken logs.marks ≡ false
+  pub changelogs : AllSound logs.changelogs.items
+  pub outputs : AllSound logs.outputs.items
+
+-- the logs are open at their files
+pub record StandOpen (reads : Image) (images : Image → Type 0) (logs : Logs) : Type 0 where
+  pub marks : (frames : List (List Record)) × IsOpenAt reads images checkpoint_file logs.marks frames
+  pub changelogs : AreOpen reads images (changelog_file 0) logs.changelogs.items
+  pub outputs : AreOpen reads images (output_file 0) logs.outputs.items
+
+-- one list of frames a log, and the changelogs' files lie below the outputs'
+pub record IsPlanFor (logs : Logs) (plan : Plan) : Type 0 where
+  pub changes : length plan.changes.items ≡ length logs.changelogs.items
+  pub sends : length plan.sends.items ≡ length logs.outputs.items
+  pub few : length logs.changelogs.items ≤ 15
+
+-- no file passes 2^40 bytes by the plan
+pub record IsRoomFor (logs : Logs) (plan : Plan) : Type 0 where
+  pub marks : HasRoom (size_of logs.marks) (plan.frame ∷ [])
+  pub changelogs : HaveRoom logs.changelogs.items plan.changes.items
+  pub outputs : HaveRoom logs.outputs.items plan.sends.items
+
+-- the changelogs have room, but the checkpoint file passes 2^40 bytes by the plan
+pub record MarkLacksRoom (logs : Logs) (plan : Plan) : Type 0 where
+  pub changelogs : HaveRoom logs.changelogs.items plan.changes.items
+  pub lacks : LacksRoom (size_of logs.marks) (plan.frame ∷ [])
+
+-- one of the files passes 2^40 bytes by the plan; the checkpoint file is looked at last
+abbrev pub IsNoRoomFor : Logs → Plan → Type 0
+IsNoRoomFor logs plan = OneLacksRoom logs.outputs.items plan.sends.items ⊎ (OneLacksRoom logs.changelogs.items plan.changes.items ⊎ MarkLacksRoom logs plan)
+
+-- the checkpoint file's log has one frame more
+abbrev pub MarksAppended : Image → (Image → Type 0) → Image → (Image → Type 0) → Log → Log → FrameView → Type 0
+MarksAppended reads images reads' images' log log' frame = (before : List (List Record)) (r : Record)
+    → IsOpenAt reads images checkpoint_file log before → IsFrame frame (r ∷ []) → IsOpenAt reads' images' checkpoint_file log' (before ++ (r ∷ []) ∷ [])
+
+-- each log has the frames that it had, followed by the plan's
+pub record Follows (reads : Image) (images : Image → Type 0) (reads' : Image) (images' : Image → Type 0) (logs logs' : Logs) (plan : Plan) : Type 0 where
+  pub marks : MarksAppended reads images reads' images' logs.marks logs'.marks plan.frame
+  pub changelogs : AreAppended reads images reads' images' (changelog_file 0) logs.changelogs.items logs'.changelogs.items plan.changes.items
+  pub outputs : AreAppended reads images reads' images' (output_file 0) logs.outputs.items logs'.outputs.items plan.sends.items
