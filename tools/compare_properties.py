@@ -1,11 +1,9 @@
 #!/usr/bin/env python3
 """Compares what props_show reads in generated properties texts with what java.util.Properties reads in them.
 
-  compare_properties.py [--texts N] [--seed N] [--program PROGRAM]
-
-The texts are all those of up to 4 of the bytes in SHORT, and N others (5,000 if it isn't given) that the seed determines. The
+The texts are all those of up to 4 of the bytes a, #, backslash, =, space, LF and CR, and others that the seed determines. The
 program is crates/props_show, which is proved and built first where no other is given. The other side is ShowProperties.java,
-compiled into a temporary folder; `javac` and `java` must be there.
+compiled into a temporary folder. It needs a JDK: `javac` and `java`.
 
 The two sides may differ in just the ways that docs/configuration.md lists. For each of them this script writes the text anew,
 so that the difference is gone (`without_differences`). What props_show reads in a text has to be exactly what Java reads in the
@@ -14,7 +12,7 @@ refuses a text: the line that props_show names is right where Java still refuses
 harmless, and takes it with those of the line made harmless too. What props_show writes is read by Java once more, which has to
 give the same pairs.
 
-A text that differs otherwise is printed, and the script ends with status 1.
+Status: 0 where no text differs otherwise; 1 where one does, which is printed.
 """
 import argparse
 import collections
@@ -271,10 +269,11 @@ class Comparison:
 
 
 def main():
-    words_of = argparse.ArgumentParser()
-    words_of.add_argument("--texts", type=int, default=5000)
-    words_of.add_argument("--seed", type=int, default=1)
-    words_of.add_argument("--program")
+    about, _, rest = __doc__.partition("\n\n")
+    words_of = argparse.ArgumentParser(description=about, epilog=rest, formatter_class=argparse.RawDescriptionHelpFormatter)
+    words_of.add_argument("--texts", metavar="N", type=int, default=5000, help="how many generated texts: 5,000 where it isn't given")
+    words_of.add_argument("--seed", metavar="N", type=int, default=1, help="determines them: 1 where it isn't given")
+    words_of.add_argument("--program", metavar="PROGRAM", help="the built props_show; where it isn't given it is proved and built")
     chosen = words_of.parse_args()
     program = os.path.abspath(chosen.program) if chosen.program else build_program()
     sys.exit(Comparison(program, list(texts(chosen.texts, chosen.seed))).told())

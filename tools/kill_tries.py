@@ -1,22 +1,21 @@
 #!/usr/bin/env python3
 """Kills the program at random moments of a run on real folders, and checks what it leaves.
 
-  kill_tries.py PROGRAM [TRIES [SEED]]
-
 Each try begins with a folder that was run once, to which messages were added. The program is started on it and killed. Its
 files must then restore to the checkpoint before or to the next one, with just that checkpoint's counts, and the output must
 have what it had, or that followed by all that the added messages send. Run again, the program must come to the input's end and
 print the report of that. Where the changelog was ahead of its checkpoint, it must first have taken the records behind the
 checkpoint's count back: each of their keys, in order, with its value at the checkpoint.
 
-A killed process leaves what it wrote, so this is no test of a loss of power.
+A killed process leaves what it wrote, so this is no test of a loss of power. It needs the built program, as `rt run` leaves it in
+crates/samza_run/out/, and about half a minute for 200 tries. Status: 0 where each try went well; 1 with the first that didn't.
 """
+import argparse
 import collections
 import os
 import random
 import shutil
 import subprocess
-import sys
 import tempfile
 import time
 
@@ -87,18 +86,10 @@ class Tries:
         lines = os.path.join(self.base, "streams", "kafka", "lines", "0.log")
         os.makedirs(os.path.dirname(lines))
         shutil.copy(CONFIGURATION, self.base)
-        self.write(lines, self.all[:BEFORE])
+        topicfile.write_file(lines, self.all[:BEFORE])
         first = report(1, BEFORE, BEFORE, self.stores[1], 4 * BEFORE)
         assert run(program, self.base) == (0, first, b""), "the first run"
-        self.write(lines, self.all)
-
-    def write(self, path, records):
-        stdout, sys.stdout = sys.stdout, open(os.devnull, "w")
-        try:
-            topicfile.write_file(path, records)
-        finally:
-            sys.stdout.close()
-            sys.stdout = stdout
+        topicfile.write_file(lines, self.all)
 
     def restored(self, folder):
         """The last checkpoint's number, its changelog, and how many of its records the checkpoint counts."""
@@ -139,10 +130,14 @@ class Tries:
         return f"went on behind checkpoint {number}{taken}"
 
 
-def main(words):
-    program = os.path.abspath(words[0])
-    tries = int(words[1]) if len(words) > 1 else 200
-    draw = random.Random(int(words[2]) if len(words) > 2 else 1)
+def main():
+    about, _, rest = __doc__.partition("\n\n")
+    words = argparse.ArgumentParser(description=about, epilog=rest, formatter_class=argparse.RawDescriptionHelpFormatter)
+    words.add_argument("program", metavar="PROGRAM", help="the built program")
+    words.add_argument("tries", metavar="TRIES", nargs="?", type=int, default=200, help="how many tries: 200 where it isn't given")
+    words.add_argument("seed", metavar="SEED", nargs="?", type=int, default=1, help="determines the moments: 1 where it isn't given")
+    asked = words.parse_args()
+    program, tries, draw = os.path.abspath(asked.program), asked.tries, random.Random(asked.seed)
     with tempfile.TemporaryDirectory() as place:
         all_tries = Tries(program, place)
         shutil.copytree(all_tries.base, os.path.join(place, "whole"))
@@ -157,6 +152,4 @@ def main(words):
 
 
 if __name__ == "__main__":
-    if len(sys.argv) < 2:
-        sys.exit(__doc__)
-    main(sys.argv[1:])
+    main()

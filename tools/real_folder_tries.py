@@ -1,20 +1,20 @@
 #!/usr/bin/env python3
 """Runs the program on real folders that are not as they should be, and on one that is, and checks what it answers.
 
-  real_folder_tries.py PROGRAM
-
-PROGRAM is the built program, as `rt run` leaves it in crates/samza_run/out/. Nothing is built. Each try has its own folder and
+It needs the built program, as `rt run` leaves it in crates/samza_run/out/. Nothing is built. Each try has its own folder and
 ten seconds. What is tried: pipes, sockets, folders, devices and links in place of files; a configuration of 1 GiB in little
 memory; the cause of a device's failure, to the letter; memory that is refused before the command begins; and, where there is
-strace, that the folders are synced before the first gate that counts on their files.
+strace, that the folders are synced before the first gate that counts on their files. One try needs root, to become nobody.
+
+Status: 0 where each try went well; 1 with the first that didn't.
 """
+import argparse
 import os
 import re
 import resource
 import shutil
 import socket
 import subprocess
-import sys
 import tempfile
 
 EXAMPLE = os.path.join(os.path.dirname(os.path.abspath(__file__)), "..", "examples", "word_count")
@@ -194,8 +194,11 @@ def refused_memory(program):
     print("memory refused for the command's words: no memory")
 
 
-def main(words):
-    program = os.path.abspath(words[0])
+def main():
+    about, _, rest = __doc__.partition("\n\n")
+    words = argparse.ArgumentParser(description=about, epilog=rest, formatter_class=argparse.RawDescriptionHelpFormatter)
+    words.add_argument("program", metavar="PROGRAM", help="the built program")
+    program = os.path.abspath(words.parse_args().program)
     with tempfile.TemporaryDirectory() as place:
         tries = Tries(program, place)
         for kind in KINDS:
@@ -214,6 +217,4 @@ def main(words):
 
 
 if __name__ == "__main__":
-    if len(sys.argv) != 2:
-        sys.exit(__doc__)
-    main(sys.argv[1:])
+    main()

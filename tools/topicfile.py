@@ -1,21 +1,38 @@
 #!/usr/bin/env python3
 """Makes and shows the files of a job's folder, from outside the program (docs/formats.md).
 
-  topicfile.py make FILE --words SEED COUNT     COUNT messages of four words each
-  topicfile.py make FILE --lines                one message per line of standard input, with an empty key
-  topicfile.py make FILE --pairs                one record per line: KEY TAB VALUE, or KEY alone for no value
-  topicfile.py show FILE                        gate by gate: each record, and what stands behind the last gate
-  topicfile.py checkpoint FILE                  each checkpoint of a checkpoint file
-  topicfile.py state FOLDER TASK                a task's folder: its last checkpoint, and each file's number of records
+It needs Python 3.8 or later and nothing else: no built program. It keeps to the limits of the format: a key of at most 1,024
+bytes, a value of at most 65,536, frames of 1 to 4,096 records. What it writes itself is frames of at most 500 records.
 
-It reads and writes files only; `make` writes whole frames of at most 500 records and a closed gate.
+Status: 0 well; 1 a record outside the limits, a damaged file or an error of the system, told in one line on standard error;
+2 words that are no command.
 """
+import argparse
 import os
 import struct
 import sys
 
 MASK = (1 << 64) - 1
+OPEN, CLOSED = b"\x4f", b"\x43"
+KEY_BYTES, VALUE_BYTES, FRAME_RECORDS = 1024, 65536, 4096
+FRAME_BYTES = FRAME_RECORDS * (8 + KEY_BYTES + VALUE_BYTES)
+NO_VALUE = 0xFFFFFFFF
+WRITTEN_RECORDS = 500
 
+
+class Refused(Exception):
+    """What isn't done, and why."""
+
+
+class Damaged(Exception):
+    """A file that is no topic file, and the byte at which reading it as one stops."""
+
+    def __init__(self, at):
+        super().__init__(f"damaged at byte {at}")
+        self.at = at
+
+
+# Records that are written
 
 def words_of(seed):
     """Lcg64Xsh32::new(seed, 54) of rand_pcg, as words w000 to w999."""
@@ -31,88 +48,176 @@ def words_of(seed):
         yield b"w%03d" % (draw % 1000)
 
 
-def record(key, value):
+def word_records(seed, count):
+    draws = words_of(seed)
+    return ((b"%08d" % i, b" ".join(next(draws) for _ in range(4))) for i in range(count))
+
+
+def line_records(lines):
+    return ((b"", line.rstrip(b"\n")) for line in lines)
+
+
+def pair_records(lines):
+    for line in lines:
+        key, tab, value = line.rstrip(b"\n").partition(b"\t")
+        yield key, value if tab else None
+
+
+def record(key, value, number):
+    """A record's bytes. The number, from 1, is that of the line that it was made of."""
+    for name, field, most in (("key", key, KEY_BYTES), ("value", value or b"", VALUE_BYTES)):
+        if len(field) > most:
+            raise Refused(f"line {number}: a {name} of {len(field)} bytes, where {most} are the most; nothing was written")
     head = struct.pack(">I", len(key)) + key
     if value is None:
-        return head + b"\xff\xff\xff\xff"
+        return head + struct.pack(">I", NO_VALUE)
     return head + struct.pack(">I", len(value)) + value
 
 
-def write_file(path, records):
-    """Frames of at most 500 records behind open gates, then a closed gate."""
+def frames_of(records):
+    """The frames of all records, and how many records these are."""
+    frames, batch, count = [], [], 0
+
+    def close():
+        if batch:
+            body = b"".join(batch)
+            frames.append(struct.pack(">II", len(body), len(batch)) + body)
+            batch.clear()
+
+    for key, value in records:
+        count += 1
+        batch.append(record(key, value, count))
+        if len(batch) == WRITTEN_RECORDS:
+            close()
+    close()
+    return frames, count
+
+
+def make_folder(path):
     folder = os.path.dirname(path)
     if folder:
         os.makedirs(folder, exist_ok=True)
-    count = 0
-    with open(path, "wb") as out:
-        batch = []
 
-        def flush():
-            if batch:
-                body = b"".join(batch)
-                out.write(b"\x4f" + struct.pack(">II", len(body), len(batch)) + body)
-                batch.clear()
 
-        for key, value in records:
-            batch.append(record(key, value))
-            count += 1
-            if len(batch) == 500:
-                flush()
-        flush()
-        out.write(b"\x43")
-    print(f"{count} records")
+def write_file(path, records):
+    """Makes the file anew, and answers how many records it has. Where a record is refused nothing is written."""
+    frames, count = frames_of(records)
+    make_folder(path)
+    made = path + ".making"
+    try:
+        with open(made, "wb") as file:
+            for frame in frames:
+                file.write(OPEN + frame)
+            file.write(CLOSED)
+            file.flush()
+            os.fsync(file.fileno())
+        os.replace(made, path)
+    except BaseException:
+        if os.path.exists(made):
+            os.remove(made)
+        raise
+    return count
+
+
+def append_file(path, records):
+    """Puts the records behind the file's last frame, and answers how many it had and how many were added.
+
+    The gate behind the frames that were there is opened last, so that a reader finds none of the new ones or all.
+    """
+    frames, count = frames_of(records)
+    make_folder(path)
+    with open(path, "r+b" if os.path.exists(path) else "w+b") as file:
+        had, gate, is_empty = last_gate(file.read())
+        if is_empty:
+            put(file, 0, CLOSED)
+        if frames:
+            put(file, gate + 1, OPEN.join(frames) + CLOSED)
+            file.seek(gate)
+            file.write(OPEN)
+            sync(file)
+    return had, count
+
+
+def put(file, at, data):
+    """Ends the file with these bytes, and syncs it."""
+    file.seek(at)
+    file.write(data)
+    file.truncate()
+    sync(file)
+
+
+def sync(file):
+    file.flush()
+    os.fsync(file.fileno())
+
+
+def last_gate(data):
+    """How many records a file has, where its last gate stands, and whether it is too short to have frames."""
+    had, gate = 0, 0
+    for at, records in batches(data):
+        had += len(records)
+        gate = at + 9 + struct.unpack_from(">I", data, at + 1)[0]
+    return had, gate, len(data) < 2
+
+
+# Files that are read
+
+def read_field(data, at, end, most, may_lack):
+    """A length and its bytes, and the place behind them."""
+    if at + 4 > end:
+        raise Damaged(at)
+    (size,) = struct.unpack_from(">I", data, at)
+    if may_lack and size == NO_VALUE:
+        return None, at + 4
+    if size > most or at + 4 + size > end:
+        raise Damaged(at)
+    return data[at + 4:at + 4 + size], at + 4 + size
 
 
 def read_records(data, at, end, number):
     records = []
     for _ in range(number):
-        fields = []
-        for name, most in (("key", 1024), ("value", 65536)):
-            if at + 4 > end:
-                raise ValueError(f"no room for a {name} length at byte {at}")
-            (size,) = struct.unpack_from(">I", data, at)
-            if name == "value" and size == 0xFFFFFFFF:
-                fields.append(None)
-                at += 4
-                continue
-            if size > most or at + 4 + size > end:
-                raise ValueError(f"bad {name} length at byte {at}")
-            fields.append(data[at + 4:at + 4 + size])
-            at += 4 + size
-        records.append(tuple(fields))
+        key, at = read_field(data, at, end, KEY_BYTES, False)
+        value, at = read_field(data, at, end, VALUE_BYTES, True)
+        records.append((key, value))
     if at != end:
-        raise ValueError(f"records end at byte {at}, the frame at {end}")
+        raise Damaged(at)
     return records
 
 
 def batches(data):
-    """Yields (gate's byte, records); raises ValueError at damage. Returns the last gate's byte."""
+    """The gate's byte and the records of each frame. Raises Damaged at the byte that docs/formats.md says."""
     if len(data) <= 1:
         return
     gate = 0
     while True:
         if gate >= len(data):
-            raise ValueError(f"no gate at byte {gate}")
-        if data[gate] != 0x4F:
+            raise Damaged(gate)
+        if data[gate:gate + 1] != OPEN:
             return
         if gate + 9 > len(data):
-            raise ValueError(f"no frame at byte {gate + 1}")
+            raise Damaged(gate + 1)
         length, number = struct.unpack_from(">II", data, gate + 1)
         end = gate + 9 + length
-        if end > len(data) or not 1 <= number <= 4096:
-            raise ValueError(f"no frame at byte {gate + 1}")
+        if length > FRAME_BYTES or end > len(data):
+            raise Damaged(gate + 1)
+        if not 1 <= number <= FRAME_RECORDS:
+            raise Damaged(gate + 5)
         yield gate, read_records(data, gate + 9, end, number)
         gate = end
 
 
+def read_file(path):
+    with open(path, "rb") as file:
+        return file.read()
+
+
 def text(data):
-    if data is None:
-        return "(none)"
     return "".join(chr(b) if 0x21 <= b <= 0x7E and b != 0x5C else "\\x%02x" % b for b in data)
 
 
 def show(path):
-    data = open(path, "rb").read()
+    data = read_file(path)
     at, offset = 0, 0
     for gate, records in batches(data):
         print(f"gate {gate} open, {len(records)} records")
@@ -125,17 +230,19 @@ def show(path):
     print(f"{offset} records, {len(data)} bytes")
 
 
+# Checkpoints
+
 def take(data, at, size):
     if at + size > len(data):
-        raise ValueError("checkpoint record ends early")
+        raise Refused("a checkpoint's record ends early")
     return data[at:at + size], at + size
 
 
 def parse_checkpoint(value):
+    form, at = take(value or b"", 0, 1)
+    if form != b"\x01":
+        raise Refused(f"a checkpoint of the unknown format {form[0]}")
     out = {}
-    if value[0] != 1:
-        raise ValueError(f"format {value[0]}")
-    at = 1
     raw, at = take(value, at, 2)
     out["inputs"] = []
     for _ in range(int.from_bytes(raw, "big")):
@@ -157,66 +264,127 @@ def parse_checkpoint(value):
         name, at = take(value, at, size[0])
         out["outputs"].append(name.decode("latin-1"))
     if at != len(value):
-        raise ValueError("bytes behind the checkpoint")
+        raise Refused("bytes behind a checkpoint")
     return out
 
 
 def checkpoints(path):
     found = []
-    for _, records in batches(open(path, "rb").read()):
+    for _, records in batches(read_file(path)):
         for key, value in records:
             found.append((int.from_bytes(key, "big"), parse_checkpoint(value)))
     return found
 
 
-def state(folder, task):
+def show_checkpoint(number, mark):
+    print(f"checkpoint {number}")
+    for name, partition, offset in mark["inputs"]:
+        print(f"  input {name} {partition} next {offset}")
+    for name, count in mark["stores"]:
+        print(f"  store {name} records {count}")
+    for name in mark["outputs"]:
+        print(f"  output {name}")
+
+
+def show_state(folder, task):
     base = os.path.join(folder, "tasks", task)
-    for name in sorted(os.listdir(base), key=lambda n: int(n.split(".")[0])):
-        path = os.path.join(base, name)
-        data = open(path, "rb").read()
+    names = [name for name in os.listdir(base) if name.endswith(".log") and name[:-4].isdecimal()]
+    for name in sorted(names, key=lambda name: int(name[:-4])):
+        data = read_file(os.path.join(base, name))
         try:
             count = sum(len(records) for _, records in batches(data))
             print(f"file {name}: {count} records, {len(data)} bytes")
-        except ValueError as fault:
-            print(f"file {name}: damaged: {fault}")
-    try:
-        found = checkpoints(os.path.join(base, "0.log"))
-        print(f"last checkpoint: {found[-1] if found else 'fresh'}")
-    except (OSError, ValueError) as fault:
-        print(f"last checkpoint: {fault}")
+        except Damaged as fault:
+            print(f"file {name}: {fault}, of {len(data)} bytes")
+    marks = os.path.join(base, "0.log")
+    found = checkpoints(marks) if os.path.exists(marks) else []
+    if found:
+        show_checkpoint(*found[-1])
+    else:
+        print("no checkpoint: a run begins the task anew")
+
+
+# The command
+
+def records_asked_for(asked):
+    if asked.words:
+        return word_records(*asked.words)
+    file = sys.stdin.buffer if asked.input == "-" else open(asked.input, "rb")
+    return pair_records(file) if asked.pairs else line_records(file)
+
+
+def make(asked):
+    if asked.append:
+        had, count = append_file(asked.file, records_asked_for(asked))
+        print(f"{count} records behind {had}")
+        return
+    if not asked.replace and os.path.exists(asked.file) and os.path.getsize(asked.file) > 1:
+        raise Refused("it is there: --append adds to it, --replace makes it anew; nothing was written")
+    print(f"{write_file(asked.file, records_asked_for(asked))} records")
+
+
+def asked_for(words):
+    about, _, rest = __doc__.partition("\n\n")
+    top = argparse.ArgumentParser(description=about, epilog=rest, formatter_class=argparse.RawDescriptionHelpFormatter)
+    commands = top.add_subparsers(dest="command", required=True)
+
+    made = commands.add_parser(
+        "make",
+        help="make a topic file of lines, or append to one",
+        description="Makes a topic file, or appends to one that is there. A record outside the limits is refused by its line's "
+        "number, a damaged file by its byte, and then nothing is written. No job may run on the folder meanwhile.",
+    )
+    made.add_argument("file", metavar="FILE", help="the topic file; folders that are missing are made")
+    made.add_argument("input", metavar="INPUT", nargs="?", default="-", help="the file of lines; - or none is standard input")
+    kind = made.add_mutually_exclusive_group()
+    kind.add_argument("--lines", action="store_true", help="a message a line, with an empty key; so it is where no kind is given")
+    kind.add_argument("--pairs", action="store_true", help="a record a line: KEY TAB VALUE, or KEY alone for no value")
+    kind.add_argument("--words", nargs=2, type=int, metavar=("SEED", "COUNT"), help="COUNT messages of four words each, no input")
+    there = made.add_mutually_exclusive_group()
+    there.add_argument("--append", action="store_true", help="put the records behind those of FILE")
+    there.add_argument("--replace", action="store_true", help="make FILE anew where it has records")
+
+    shown = commands.add_parser(
+        "show", help="show a topic file", description="Shows each gate and record, and what stands behind the last gate. A byte "
+        "outside ! to ~ is shown as \\xNN, and a record without a value as !."
+    )
+    shown.add_argument("file", metavar="FILE")
+    marks = commands.add_parser("checkpoint", help="show a checkpoint file", description="Shows each checkpoint of tasks/N/0.log.")
+    marks.add_argument("file", metavar="FILE")
+    state = commands.add_parser(
+        "state", help="show a task's files", description="Shows how many records each file of a task has, and its last checkpoint."
+    )
+    state.add_argument("folder", metavar="FOLDER", help="the job's folder")
+    state.add_argument("task", metavar="TASK", help="the task's number")
+    return top.parse_args(words)
 
 
 def main(words):
-    if len(words) < 2 or words[0] in ("-h", "--help"):
-        print(__doc__)
-        return 0 if words[:1] and words[0] in ("-h", "--help") else 2
-    if words[0] == "show":
-        show(words[1])
-    elif words[0] == "checkpoint":
-        for number, body in checkpoints(words[1]):
-            print(number, body)
-    elif words[0] == "state" and len(words) == 3:
-        state(words[1], words[2])
-    elif words[0] == "make" and words[2:3] == ["--words"] and len(words) == 5:
-        draws = words_of(int(words[3]))
-        write_file(words[1], ((b"%08d" % i, b" ".join(next(draws) for _ in range(4))) for i in range(int(words[4]))))
-    elif words[0] == "make" and words[2:] == ["--lines"]:
-        write_file(words[1], ((b"", line.rstrip(b"\n")) for line in sys.stdin.buffer))
-    elif words[0] == "make" and words[2:] == ["--pairs"]:
-        def pairs():
-            for line in sys.stdin.buffer:
-                key, tab, value = line.rstrip(b"\n").partition(b"\t")
-                yield key, value if tab else None
-        write_file(words[1], pairs())
-    else:
-        print(__doc__)
-        return 2
+    asked = asked_for(words)
+    place = asked.folder if asked.command == "state" else asked.file
+    try:
+        if asked.command == "make":
+            make(asked)
+        elif asked.command == "show":
+            show(asked.file)
+        elif asked.command == "checkpoint":
+            for number, mark in checkpoints(asked.file):
+                show_checkpoint(number, mark)
+        else:
+            show_state(asked.folder, asked.task)
+        sys.stdout.flush()
+    except (Refused, Damaged) as fault:
+        sys.stdout.flush()
+        print(f"topicfile.py: {place}: {fault}", file=sys.stderr)
+        return 1
+    except BrokenPipeError:
+        os.dup2(os.open(os.devnull, os.O_WRONLY), sys.stdout.fileno())
+        return 1
+    except OSError as fault:
+        print(f"topicfile.py: {fault}", file=sys.stderr)
+        return 1
     return 0
 
 
 if __name__ == "__main__":
-    try:
-        sys.exit(main(sys.argv[1:]))
-    except (OSError, ValueError, struct.error) as fault:
-        print(f"topicfile.py: {fault}", file=sys.stderr)
-        sys.exit(1)
+    sys.exit(main(sys.argv[1:]))
