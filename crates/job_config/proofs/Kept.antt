@@ -1,5 +1,5 @@
 -- What the rows of stores and streams keep.
-use Rattle.std.proofs.Common.{◌≡◌, ◌+◌, ◌≤◌, ◌<◌, ℕ, max, min, List, [], ◌∷◌, ◌++◌, length, map, get_or, Bool, true, false, cond, not, ◌==◌, nat_le, Option, Some, None, Result, Ok, Err, refl, sym, ◌∙◌, ap, subst, arith}
+use Rattle.std.proofs.Common.{◌≡◌, ◌+◌, ◌≤◌, ◌<◌, ℕ, max, min, List, [], ◌∷◌, ◌++◌, length, map, get_or, Bool, true, false, cond, not, ◌==◌, ◌&&◌, nat_le, Option, Some, None, Result, Ok, Err, refl, sym, ◌∙◌, ap, subst, arith}
 use Rattle.std.proofs.lemmas.Bool.Decides.{nat_tests}
 use Rattle.std.proofs.lemmas.List.{length-drop}
 use Rattle.std.proofs.lemmas.List.Sums.{prefix_len_stops, split_at_first}
@@ -8,7 +8,7 @@ use Rattle.std.specs.FinMap as map_of
 use Rattle.samza_model.specs.Names.{is_system, is_stream, is_topic}
 use Rattle.samza_model.specs.declared.setups.StoreSetup.{StoreSetup}
 use Rattle.props_text.specs.Pairs.{Props}
-use Rattle.job_config.specs.declared.faults.What.{What}
+use Rattle.config_values.specs.declared.faults.What.{What}
 use Rattle.job_config.specs.declared.config.InputConfig.{InputConfig}
 use Rattle.job_config.specs.declared.streams.Stream.{Stream}
 use Rattle.job_config.specs.declared.keys.StoreSetting.{StoreSetting}
@@ -16,21 +16,24 @@ use Rattle.job_config.specs.declared.keys.StoreSetting.TheVariants.{Factory, Cha
 use Rattle.job_config.specs.declared.keys.StreamSetting.{StreamSetting}
 use Rattle.job_config.specs.declared.keys.StreamSetting.TheVariants.{OwnStart, SystemStart, OwnReset, SystemReset, Bootstrap, Priority}
 use Rattle.job_config.specs.declared.keys.Setting.TheVariants.{Stores}
-use Rattle.job_config.specs.declared.faults.What.TheVariants.{OutOfRange}
+use Rattle.config_values.specs.declared.faults.What.TheVariants.{OutOfRange}
 use Rattle.std.specs.Option.{option_or}
 use Rattle.job_config.specs.Keys.{text_of, store_key, stream_key}
-use Rattle.job_config.specs.Values.{any_text, some_text, size, cut, then_number, start, own_flag, flag, priority}
-use Rattle.job_config.specs.Numbers.{number_of}
+use Rattle.config_values.specs.Values.{any_text, some_text, size, cut, then_number, start, own_flag, flag, priority}
+use Rattle.config_values.specs.Numbers.{number_of}
 use Rattle.job_config.specs.Stores.{store_of, is_misnamed, is_no_store_name, unless_misnamed, store_names, new_store, store_row, counted_stores, store_rows}
 use Rattle.job_config.specs.Streams.{system_of, stream_of, new_stream, on_said, stream_said, stream_row, input_of, stream_rows}
-use Rattle.job_config.specs.Lists.{in_order}
+use Rattle.config_values.specs.Lists.{in_order}
 use Rattle.job_config.specs.Asking.{Fault, Asks, ◌>>=◌, gives, row, each, unless}
 use Rattle.job_config.specs.Bounds.{AreRising, AreStores, IsStore, input_name, store_name}
 use Rattle.job_config.proofs.Rising.{in_order_rises}
 use Rattle.job_config.proofs.Topics.{each_in_order}
 use Rattle.job_config.proofs.Yields.{through, row_gave, unless_gave, each_all, each_keeps}
-use Rattle.job_config.proofs.Spelled.{and_right}
 use Rattle.job_config.proofs.Within.{priority_most}
+
+and_right : (a b : Bool) → (a && b) ≡ true → b ≡ true
+and_right true b is = is
+and_right false b is = absurd cc
 
 -- a size is from 1 to its bound, where what it is without a key is
 cut_bounds : (most : ℕ) (n : Option ℕ) (x : ℕ) → 1 ≤ most → cut most n ≡ Ok x → (1 ≤ x) × (x ≤ most)

@@ -1,12 +1,10 @@
 pub mod Each
-pub mod Entries
 pub mod Kept
 pub mod Limits
 pub mod Once
 pub mod Places
 pub mod Rising
 pub mod Said
-pub mod Spelled
 pub mod StoreNames
 pub mod Topics
 pub mod Unread

@@ -5,7 +5,7 @@ use Rattle.props_text.specs.Pairs.{Props}
 use Rattle.job_config.specs.declared.keys.Setting.TheVariants.{Containers, Workers, Concurrency, WindowMs, CommitMs, AsyncCommit, Batch}
 use Rattle.job_config.specs.declared.table.Limits.{Limits}
 use Rattle.job_config.specs.Keys.{text_of}
-use Rattle.job_config.specs.Values.{bounded, flag, millis}
+use Rattle.config_values.specs.Values.{bounded, flag, millis}
 use Rattle.job_config.specs.Asking.{row}
 use Rattle.job_config.specs.Limits.{limit_rows}
 use Rattle.job_config.specs.Bounds.{IsInterval, IsWithin}

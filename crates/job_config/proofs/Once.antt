@@ -1,22 +1,10 @@
 -- Names, each once.
-use Rattle.std.proofs.Common.{ℕ, ◌≡◌, ◌≤◌, List, [], ◌∷◌, ◌++◌, length, Option, Some, None, Ok, Bool, true, false, cond, ◌||◌, refl, ◌∙◌, ap, arith}
+use Rattle.std.proofs.Common.{ℕ, ◌≡◌, List, [], ◌∷◌, ◌++◌, Option, Some, None, Ok, Bool, true, false, cond, ◌||◌, refl, ◌∙◌, ap}
 use Rattle.std.specs.List.{fold, list_any}
-use Rattle.std.proofs.lemmas.List.{length-append}
 use Rattle.samza_model.specs.Checkpoint.{are_distinct}
-use Rattle.job_config.specs.Values.{same}
-use Rattle.job_config.specs.Lists.{with_name, each_once, outputs}
+use Rattle.config_values.specs.Values.{same}
+use Rattle.config_values.specs.Lists.{with_name, each_once, outputs}
 use Rattle.job_config.proofs.Topics.{names_in_hold}
-
-one_more : (b : Bool) (names : List (List ℕ)) (name : List ℕ) → length names ≤ length (cond b names (names ++ name ∷ []))
-one_more true names name = omega arith
-one_more false names name = omega (arith, length-append names (name ∷ []))
-
-pub once_grows : (names rest : List (List ℕ)) → length names ≤ length (fold with_name names rest)
-once_grows names [] = omega arith
-once_grows names (x ∷ xs) =
-    let a = one_more (list_any (λ n. same n x) names) names x in
-    let b = once_grows (with_name names x) xs in
-    omega arith
 
 neither : (a b : Bool) → (a || b) ≡ false → (a ≡ false) × (b ≡ false)
 neither true b is = absurd cc

@@ -7,7 +7,7 @@ use Rattle.std.specs.Ordering.{nat_cmp, match_ordering, ordering_reverse}
 use Rattle.std.specs.Cmp.Lexicographic.{slice_cmp}
 use Rattle.std.specs.BTreeSet.{insert_key}
 use Rattle.job_config.specs.Bounds.{AreRising}
-use Rattle.job_config.specs.Lists.{in_order, inputs}
+use Rattle.config_values.specs.Lists.{in_order, inputs}
 use Rattle.job_config.proofs.Topics.{each_insert, names_in_hold}
 
 abbrev IsBefore : List ℕ → List ℕ → Type 0

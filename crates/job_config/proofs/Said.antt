@@ -2,7 +2,7 @@
 use Rattle.std.proofs.Common.{◌≡◌, ℕ, List, Option, Result, Ok, Err, ap}
 use Rattle.std.specs.FinMap.{get}
 use Rattle.props_text.specs.Pairs.{Props}
-use Rattle.job_config.specs.declared.faults.What.{What}
+use Rattle.config_values.specs.declared.faults.What.{What}
 use Rattle.job_config.specs.declared.rows.RowFault.{RowFault}
 use Rattle.job_config.specs.declared.rows.RowFault.TheVariants.{Bad, NoMemory}
 use Rattle.job_config.specs.declared.streams.Stream.{Stream}

@@ -7,11 +7,11 @@ use Rattle.std.specs.Cmp.Lexicographic.{slice_cmp}
 use Rattle.std.specs.FinMap as map
 use Rattle.std.specs.BTreeSet.{insert_key}
 use Rattle.props_text.specs.Pairs.{Props}
-use Rattle.job_config.specs.declared.faults.What.TheVariants.{BadName}
+use Rattle.config_values.specs.declared.faults.What.TheVariants.{BadName}
 use Rattle.job_config.specs.declared.rows.RowFault.{RowFault}
 use Rattle.job_config.specs.declared.rows.RowFault.TheVariants.{Bad, NoMemory}
 use Rattle.job_config.specs.Outcome.{Fails}
-use Rattle.job_config.specs.Lists.{in_order}
+use Rattle.config_values.specs.Lists.{in_order}
 use Rattle.job_config.specs.Stores.{store_of, is_misnamed, unless_misnamed, store_names}
 use Rattle.job_config.specs.Parts.{with_store, PutsStore}
 use Rattle.job_config.proofs.Places.{key_at}

@@ -6,9 +6,9 @@ use Rattle.std.specs.Ordering.{nat_cmp, match_ordering}
 use Rattle.std.specs.Cmp.Lexicographic.{slice_cmp}
 use Rattle.std.specs.BTreeSet.{insert_key}
 use Rattle.samza_model.specs.Names.{is_topic}
-use Rattle.job_config.specs.declared.faults.What.TheVariants.{OutOfRange, BadName}
-use Rattle.job_config.specs.Values.{same}
-use Rattle.job_config.specs.Lists.{entries_of, with_name, each_once, in_order, counted, names_in, inputs, outputs}
+use Rattle.config_values.specs.declared.faults.What.TheVariants.{OutOfRange, BadName}
+use Rattle.config_values.specs.Values.{same}
+use Rattle.config_values.specs.Lists.{entries_of, with_name, each_once, in_order, counted, names_in, inputs, outputs}
 use Rattle.job_config.specs.Bounds.{AreTopics}
 
 module _ (P : List ℕ → Type 0) where

@@ -2,10 +2,10 @@
 use Rattle.std.proofs.Common.{◌≡◌, ◌<◌, ◌≤◌, ◌==◌, ◌^◌, ℕ, List, Bool, true, false, cond, nat_le, nat_lt, Option, Some, None, IfSome, Result, Ok, Err, codes, refl, subst, arith}
 use Rattle.std.proofs.lemmas.Bool.Decides.{nat_tests}
 use Rattle.samza_model.specs.Names.{is_between}
-use Rattle.job_config.specs.declared.faults.What.{What}
-use Rattle.job_config.specs.declared.faults.What.TheVariants.{OutOfRange, BadName, NotNumber}
-use Rattle.job_config.specs.Numbers.{are_digits, decimal, has_minus, number_of, signed, trimmed, without_sign}
-use Rattle.job_config.specs.Values.{bounded, then_number, within, priority, raised, interval, interval_of, is_job_name, job_name, millis}
+use Rattle.config_values.specs.declared.faults.What.{What}
+use Rattle.config_values.specs.declared.faults.What.TheVariants.{OutOfRange, BadName, NotNumber}
+use Rattle.config_values.specs.Numbers.{are_digits, decimal, has_minus, number_of, signed, trimmed, without_sign}
+use Rattle.config_values.specs.Values.{bounded, then_number, within, priority, raised, interval, interval_of, is_job_name, job_name, millis}
 use Rattle.job_config.specs.Bounds.{IsInterval, IsWithin}
 
 within_is : (low high : ℕ) (n : Option ℕ) (x : ℕ) → within low high n ≡ Ok x → IsWithin low high x

@@ -3,7 +3,7 @@ use Rattle.std.proofs.Common.{◌≡◌, ℕ, List, [], ◌∷◌, ◌++◌, len
 use Rattle.std.specs.FinMap.{get}
 use Rattle.std.specs.List.{AllByRecursion}
 use Rattle.props_text.specs.Pairs.{Props}
-use Rattle.job_config.specs.declared.faults.What.{What}
+use Rattle.config_values.specs.declared.faults.What.{What}
 use Rattle.job_config.specs.Asking.{Fault, Asks, ◌>>=◌, on_ok, gives, row_of, row, each, unless}
 
 -- asking gave this, through what it asked for first

@@ -2,7 +2,7 @@
 use Rattle.std.specs.Prelude.{ℕ, List, [], ◌∷◌, ◌++◌, Option, Result, Ok, Err}
 use Rattle.std.specs.FinMap.{get}
 use Rattle.props_text.specs.Pairs.{Props}
-use Rattle.job_config.specs.declared.faults.What.{What}
+use Rattle.config_values.specs.declared.faults.What.{What}
 
 -- a bad key, and what is wrong with it
 abbrev pub Fault : Type 0

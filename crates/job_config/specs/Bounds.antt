@@ -10,7 +10,7 @@ use Rattle.samza_model.specs.Names.{is_system, is_topic, topic_of}
 use Rattle.samza_model.specs.declared.setups.StoreSetup.{StoreSetup}
 use Rattle.job_config.specs.declared.config.InputConfig.{InputConfig}
 use Rattle.job_config.specs.declared.config.JobConfig.{JobConfig}
-use Rattle.job_config.specs.Values.{is_job_name}
+use Rattle.config_values.specs.Values.{is_job_name}
 
 -- one stream's name or more, and at most so many
 pub record AreTopics (most : ℕ) (names : List (List ℕ)) : Type 0 where

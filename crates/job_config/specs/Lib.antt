@@ -1,15 +1,14 @@
--- The contracts of `JobConfig` cite `Table`, `Bounds` and `Outcome`, which stand on the others, but for `Parts` and `Spelling`:
--- those are what private functions promise each other, step by step, and nothing outside is claimed by them.
+-- The contracts of `JobConfig` cite `Table`, `Bounds` and `Outcome`, which stand on the others, but for `Parts`: those are what
+-- private functions promise each other, step by step, and nothing outside is claimed by them.
+pub use Rattle.config_values.specs.Lists
+pub use Rattle.config_values.specs.Numbers
+pub use Rattle.config_values.specs.Values
 pub mod Asking
 pub mod Bounds
 pub mod Keys
 pub mod Limits
-pub mod Lists
-pub mod Numbers
 pub mod Outcome
 pub mod Parts
-pub mod Spelling
 pub mod Stores
 pub mod Streams
 pub mod Table
-pub mod Values

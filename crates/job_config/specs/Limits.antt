@@ -4,7 +4,7 @@ use Rattle.props_text.specs.Pairs.{Props}
 use Rattle.job_config.specs.declared.table.Limits.{Limits}
 use Rattle.job_config.specs.declared.keys.Setting.TheVariants.{Containers, Workers, Concurrency, WindowMs, CommitMs, AsyncCommit, Batch}
 use Rattle.job_config.specs.Keys.{text_of}
-use Rattle.job_config.specs.Values.{bounded, millis, flag}
+use Rattle.config_values.specs.Values.{bounded, millis, flag}
 use Rattle.job_config.specs.Asking.{Asks, ◌>>=◌, gives, row}
 
 unfoldable pub limit_rows : Props → Asks Limits

@@ -1,10 +1,10 @@
 -- What the private parts of the reader promise each other, step by step.
-use Rattle.std.specs.Prelude.{◌≡◌, ◌<◌, ◌≤◌, ℕ, List, [], ◌∷◌, length, Option, Some, None, Result, Ok, Err, true, false, cond}
+use Rattle.std.specs.Prelude.{◌≡◌, ℕ, List, [], ◌∷◌, Option, Some, None, Result, Ok, Err, true, false, cond}
 use Rattle.std.specs.Ordering.{nat_cmp}
 use Rattle.std.specs.Cmp.Lexicographic.{slice_cmp}
 use Rattle.std.specs.BTreeSet.{insert_key}
-use Rattle.job_config.specs.declared.faults.What.{What}
-use Rattle.job_config.specs.declared.faults.What.TheVariants.{BadName}
+use Rattle.config_values.specs.declared.faults.What.{What}
+use Rattle.config_values.specs.declared.faults.What.TheVariants.{BadName}
 use Rattle.job_config.specs.declared.faults.ConfigFault.{ConfigFault}
 use Rattle.job_config.specs.declared.faults.ConfigFault.TheVariants.{Bad as BadKey, NoMemory as NoRoom}
 use Rattle.job_config.specs.declared.rows.RowFault.{RowFault}
@@ -12,7 +12,6 @@ use Rattle.job_config.specs.declared.rows.RowFault.TheVariants.{Bad, NoMemory}
 use Rattle.job_config.specs.Stores.{store_of, is_misnamed}
 use Rattle.props_text.specs.Written.{written_text}
 use Rattle.job_config.specs.Table.{is_unread}
-use Rattle.job_config.specs.Lists.{each_once}
 use Rattle.job_config.specs.Asking.{Fault}
 use Rattle.job_config.specs.Outcome.{Fails}
 
@@ -25,15 +24,6 @@ Gives asked (Err fault) asking = Fails fault asking
 abbrev pub Answers : {A : Type 0} → Result A RowFault → Result A Fault → Type 0
 Answers (Ok x) r = r ≡ Ok x
 Answers (Err fault) r = Fails fault r
-
--- an entry, where it isn't empty
-abbrev pub kept : List ℕ → List (List ℕ)
-kept [] = []
-kept (c ∷ cs) = (c ∷ cs) ∷ []
-
--- each name once; where they are more than `most`, only that they are
-abbrev pub IsEachOnce : ℕ → List (List ℕ) → List (List ℕ) → Type 0
-IsEachOnce most names once = (length once ≤ most → once ≡ each_once names) × (most < length once → most < length (each_once names))
 
 -- what a key says is put in, or refused
 abbrev pub Puts : {A : Type 0} → A → Result (Unit {0}) What → Result A What → Type 0

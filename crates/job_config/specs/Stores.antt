@@ -6,13 +6,13 @@ use Rattle.std.specs.FinMap.{keys}
 use Rattle.props_text.specs.Pairs.{Props}
 use Rattle.samza_model.specs.Names.{is_system}
 use Rattle.samza_model.specs.declared.setups.StoreSetup.{StoreSetup}
-use Rattle.job_config.specs.declared.faults.What.TheVariants.{Missing, OutOfRange, BadName}
+use Rattle.config_values.specs.declared.faults.What.TheVariants.{Missing, OutOfRange, BadName}
 use Rattle.job_config.specs.declared.keys.Setting.TheVariants.{Stores}
 use Rattle.job_config.specs.declared.keys.StoreSetting.{StoreSetting}
 use Rattle.job_config.specs.declared.keys.StoreSetting.TheVariants.{Factory, Changelog, CacheSize, BatchSize}
 use Rattle.job_config.specs.Keys.{text_of, store_key}
-use Rattle.job_config.specs.Values.{same, size, any_text, some_text}
-use Rattle.job_config.specs.Lists.{in_order}
+use Rattle.config_values.specs.Values.{same, size, any_text, some_text}
+use Rattle.config_values.specs.Lists.{in_order}
 use Rattle.job_config.specs.Asking.{Fault, Asks, ◌>>=◌, gives, row, each, unless}
 
 -- what stands behind this front of a text, and before this back of it

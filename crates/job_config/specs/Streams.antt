@@ -4,13 +4,13 @@ use Rattle.std.specs.Option.{option_or}
 use Rattle.std.specs.List.{before_first, after_first}
 use Rattle.props_text.specs.Pairs.{Props}
 use Rattle.samza_model.specs.declared.setups.OffsetDefault.TheVariants.{Upcoming}
-use Rattle.job_config.specs.declared.faults.What.{What}
+use Rattle.config_values.specs.declared.faults.What.{What}
 use Rattle.job_config.specs.declared.config.InputConfig.{InputConfig}
 use Rattle.job_config.specs.declared.streams.Stream.{Stream}
 use Rattle.job_config.specs.declared.keys.StreamSetting.{StreamSetting}
 use Rattle.job_config.specs.declared.keys.StreamSetting.TheVariants.{OwnStart, SystemStart, OwnReset, SystemReset, Bootstrap, Priority}
 use Rattle.job_config.specs.Keys.{stream_key}
-use Rattle.job_config.specs.Values.{start, own_flag, flag, priority}
+use Rattle.config_values.specs.Values.{start, own_flag, flag, priority}
 use Rattle.job_config.specs.Asking.{Asks, ◌>>=◌, gives, row, each}
 
 -- `system.stream` is cut at the first dot

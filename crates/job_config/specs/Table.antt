@@ -7,12 +7,12 @@ use Rattle.props_text.specs.Written.{written_text}
 use Rattle.samza_model.specs.declared.classes.Class.{Class}
 use Rattle.samza_model.specs.declared.classes.Class.TheVariants as class_is
 use Rattle.job_config.specs.declared.config.JobConfig.{JobConfig}
-use Rattle.job_config.specs.declared.shipped.Shipped.{Shipped}
-use Rattle.job_config.specs.declared.shipped.Shipped.TheVariants.{WordCount, Dedupe, SessionCount, TableJoin}
+use Rattle.config_values.specs.declared.shipped.Shipped.{Shipped}
+use Rattle.config_values.specs.declared.shipped.Shipped.TheVariants.{WordCount, Dedupe, SessionCount, TableJoin}
 use Rattle.job_config.specs.declared.keys.Setting.TheVariants.{JobName, TaskClass, Inputs, Outputs, Table}
 use Rattle.job_config.specs.Keys.{text_of}
-use Rattle.job_config.specs.Values.{same, class, job_name}
-use Rattle.job_config.specs.Lists.{inputs, outputs, one_of}
+use Rattle.config_values.specs.Values.{same, class, job_name}
+use Rattle.config_values.specs.Lists.{inputs, outputs, one_of}
 use Rattle.job_config.specs.Limits.{limit_rows}
 use Rattle.job_config.specs.Stores.{store_rows}
 use Rattle.job_config.specs.Streams.{stream_rows}

@@ -1,7 +1,7 @@
 // A configuration from its pairs.
 ghost use Rattle.std.specs.Prelude.{◌≡◌, ◌++◌, Ok, IfOk, IfErr, OnOk};
 ghost use Rattle.std.specs.List.{list_any};
-ghost use Rattle.job_config.specs.Values.{same};
+ghost use Rattle.config_values.specs.Values.{same};
 ghost use Rattle.job_config.specs.Table.{unread, config_of};
 ghost use Rattle.job_config.specs.Bounds.{IsBounded};
 ghost use Rattle.job_config.specs.Parts.{if_unread, IsWritten};

@@ -1,15 +1,14 @@
 // One row of the table: a key is asked for, and its value read.
 ghost use Rattle.std.specs.Prelude.{◌≤◌};
 ghost use Rattle.job_config.specs.Keys.{text_of};
-ghost use Rattle.job_config.specs.Values.{bounded, millis, flag, class, job_name};
-ghost use Rattle.job_config.specs.Lists.{inputs, outputs, one_of};
+ghost use Rattle.config_values.specs.Values.{bounded, millis, flag, class, job_name};
+ghost use Rattle.config_values.specs.Lists.{inputs, outputs, one_of};
 ghost use Rattle.job_config.specs.Asking.{row_of, row};
 ghost use Rattle.job_config.specs.Parts.{Gives};
 
-use crate::faults::What;
 use crate::keys::{Asked, Key, Setting};
-use crate::shipped::Shipped;
-use crate::{lists, names, values};
+use config_values::shipped::Shipped;
+use config_values::{What, lists, names, values};
 use props_text::Pairs;
 use samza_model::{Bin, Items, NoMemory};
 use std::alloc::{AllocError, AllocFailed, Global};

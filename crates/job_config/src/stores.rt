@@ -6,12 +6,12 @@ ghost use Rattle.job_config.specs.Stores.{behind, before, named_in, store_of, st
 ghost use Rattle.job_config.specs.Asking.{each};
 ghost use Rattle.job_config.specs.Parts.{Gives, Answers, PutsStore};
 
-use crate::faults::What;
 use crate::keys::{Asked, Key, Setting, StoreSetting};
-use crate::lists::listed;
-use crate::names::{bytes_of, is_system_name};
 use crate::rows::{RowFault, answer};
-use crate::values::{any_text, is_same, size, some_text};
+use config_values::What;
+use config_values::lists::listed;
+use config_values::names::{bytes_of, is_system_name};
+use config_values::values::{any_text, is_same, size, some_text};
 use props_text::Pairs;
 use samza_model::{Bin, Items, NoMemory, StoreSetup};
 use std::alloc::Global;

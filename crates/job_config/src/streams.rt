@@ -6,10 +6,10 @@ ghost use Rattle.job_config.specs.Asking.{each};
 ghost use Rattle.job_config.specs.Parts.{Gives, Puts};
 
 use crate::config::InputConfig;
-use crate::faults::What;
 use crate::keys::{Asked, Key, StreamSetting};
 use crate::rows::{RowFault, answer};
-use crate::values::{flag, own_flag, priority, start};
+use config_values::What;
+use config_values::values::{flag, own_flag, priority, start};
 use props_text::Pairs;
 use samza_model::{Bin, Items, NoMemory, OffsetDefault};
 use std::alloc::Global;

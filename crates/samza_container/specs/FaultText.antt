@@ -7,8 +7,8 @@ use Rattle.samza_model.specs.declared.turns.Why.{Why}
 use Rattle.samza_model.specs.declared.turns.Why.TheVariants.{Code, TooMany, Limits, Expired}
 use Rattle.samza_model.specs.Files.{checkpoint_file, changelog_file}
 use Rattle.samza_model.specs.Names.{topic_of}
-use Rattle.job_config.specs.declared.faults.What.{What}
-use Rattle.job_config.specs.declared.faults.What.TheVariants.{Missing, NotNumber, OutOfRange, BadName, Unknown}
+use Rattle.config_values.specs.declared.faults.What.{What}
+use Rattle.config_values.specs.declared.faults.What.TheVariants.{Missing, NotNumber, OutOfRange, BadName, Unknown}
 use Rattle.restore_trim.specs.declared.faults.OpenFault.{OpenFault}
 use Rattle.restore_trim.specs.declared.faults.OpenFault.TheVariants.{Device as OpenDevice, Damaged, Shape, Ahead, Limit as OpenLimit, NoMemory as OpenNoMemory}
 use Rattle.samza_container.specs.declared.faults.RunFault.{RunFault}

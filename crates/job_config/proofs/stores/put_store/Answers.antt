@@ -1,5 +1,5 @@
 use Rattle.std.proofs.Common.{sym, ◌∙◌}
-use Rattle.job_config.proofs.Spelled.{system_in_ascii}
+use Rattle.config_values.proofs.Spelled.{system_in_ascii}
 use Rattle.job_config.proofs.stores.put_store.Goals as goal
 
 pub bytes_of-requires : goal.bytes_of-requires

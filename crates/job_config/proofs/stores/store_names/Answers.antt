@@ -5,7 +5,7 @@ use Rattle.std.specs.Ordering.{nat_cmp}
 use Rattle.std.specs.Cmp.Lexicographic.{slice_cmp}
 use Rattle.std.specs.FinMap as map
 use Rattle.std.specs.BTreeSet.{insert_key, keys}
-use Rattle.job_config.specs.Lists.{in_order}
+use Rattle.config_values.specs.Lists.{in_order}
 use Rattle.job_config.specs.Stores.{store_of}
 use Rattle.job_config.proofs.Places.{none_within, key_at}
 use Rattle.job_config.proofs.StoreNames.{find_more, fold_more, names_fail, names_end}

@@ -4,7 +4,7 @@ use Rattle.std.specs.Ordering.{nat_cmp}
 use Rattle.std.specs.Cmp.Lexicographic.{slice_cmp}
 use Rattle.std.specs.FinMap as map
 use Rattle.std.specs.BTreeSet.{keys, insert_key}
-use Rattle.job_config.specs.Lists.{in_order}
+use Rattle.config_values.specs.Lists.{in_order}
 use Rattle.job_config.specs.Stores.{is_misnamed, store_of}
 use Rattle.job_config.proofs.stores.store_names.Given as goal
 

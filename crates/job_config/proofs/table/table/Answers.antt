@@ -3,8 +3,8 @@ use Rattle.std.specs.FinMap.{get}
 use Rattle.job_config.specs.declared.keys.Setting.TheVariants.{JobName, Inputs, Outputs}
 use Rattle.job_config.specs.Bounds.{AreRising, AreTopics}
 use Rattle.job_config.specs.Keys.{text_of}
-use Rattle.job_config.specs.Values.{job_name}
-use Rattle.job_config.specs.Lists.{inputs, outputs}
+use Rattle.config_values.specs.Values.{job_name}
+use Rattle.config_values.specs.Lists.{inputs, outputs}
 use Rattle.job_config.proofs.Kept.{stores_are, stores_rise, inputs_named, inputs_rank}
 use Rattle.job_config.proofs.Limits.{limits_within}
 use Rattle.job_config.proofs.Within.{job_named}

@@ -1,6 +1,0 @@
-use Rattle.std.proofs.Common.{sym, ◌∙◌}
-use Rattle.job_config.proofs.Spelled.{job_in_ascii}
-use Rattle.job_config.proofs.names.job_name.Goals as goal
-
-pub bytes_of-requires : goal.bytes_of-requires
-bytes_of-requires c = job_in_ascii c.in-Some.text.now (sym c.is_job_name.ensures ∙ c.if-is_job_name.true)

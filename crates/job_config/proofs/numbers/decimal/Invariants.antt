@@ -1,6 +1,0 @@
-use Rattle.std.proofs.Common.{◌≡◌, ◌-◌, ◌^◌, min, take}
-use Rattle.job_config.specs.Numbers.{decimal}
-use Rattle.job_config.proofs.numbers.decimal.Given as goal
-
-abbrev pub invariant-loop-unit : goal.invariant-loop-unit
-invariant-loop-unit l = l.number ≡ min (decimal (take l.unit-index l.digits)) (2 ^ 64 - 1)
