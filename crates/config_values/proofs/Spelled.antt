@@ -53,8 +53,11 @@ around_dot (c ∷ cs) before after = elim (c == 46) as (λ b. (c == 46) ≡ b �
           and_both (is_ascii c) (list_all is_ascii cs) (and_left (is_ascii c) (list_all is_ascii (take n cs)) f) (around_dot cs (and_right (is_ascii c) (list_all is_ascii (take n cs)) f) b)
     ] refl before after
 
-pub system_in_ascii : (name : List ℕ) → is_system name ≡ true → list_all is_ascii name ≡ true
-system_in_ascii name h = all_then is_name_byte is_ascii name_in_ascii name (and_right (is_between 1 64 (length name)) (list_all is_name_byte name) h)
+pub units_in_ascii : (name : List ℕ) → list_all is_name_byte name ≡ true → list_all is_ascii name ≡ true
+units_in_ascii name h = all_then is_name_byte is_ascii name_in_ascii name h
+
+system_in_ascii : (name : List ℕ) → is_system name ≡ true → list_all is_ascii name ≡ true
+system_in_ascii name h = units_in_ascii name (and_right (is_between 1 64 (length name)) (list_all is_name_byte name) h)
 
 -- of a stream's name
 abbrev dotted : List ℕ → Bool

@@ -45,9 +45,10 @@ fn are_name_units_or_dots(name: &[u16]) -> bool
     name.iter().all(|unit| is_name_unit(*unit) || *unit == 46)
 }
 
-/// Whether a system or a store may have this name.
+/// Whether a system or a store may have this name. Such a name is in ASCII.
 pub fn is_system_name(name: &[u16]) -> bool
-    ensures { result ≡ is_system name.now }
+    ensures spelled { result ≡ is_system name.now }
+    ensures ascii { result ≡ true → list_all is_ascii name.now ≡ true }
 {
     is_within(1, 64, name.len()) && are_name_units(name)
 }
