@@ -14,7 +14,7 @@ use Rattle.disk_model.proofs.Moments.{followed, followed_from, weaker}
 use Rattle.topic_log.specs.declared.logs.Log.{Log}
 use Rattle.topic_log.specs.Opened.{KeepsFrames}
 use Rattle.topic_log.proofs.Spelling.{frames_unique, joined-append}
-use Rattle.restore_trim.specs.Crashes.{IsNoChangelog, KeepsOutputs, OpeningLeaves, TailsGrow, TakesBack, TrimsFiles}
+use Rattle.restore_trim.specs.Crashes.{IsNoChangelog, KeepsOutputs, OpeningLeaves, TailsGrow, TakesBack, RevertsFiles}
 use Rattle.restore_trim.specs.Refused.{OutputsHold}
 use Rattle.restore_trim.specs.Standing.{HoldsMark, IsRestored, OthersStay}
 use Rattle.restore_trim.proofs.Exact.{mark_one}
@@ -155,7 +155,7 @@ module _ (a b : Image) (k : KeepsFrames checkpoint_file a b) where
         λ before had. other (record { frames = before; has = had; mark_is = subst (λ (fs : List (List Record)). HasMark s fs m) (sym (frames_were before had)) ends }) in
         none frames (subst (λ (bytes : List ℕ). HasFrames bytes frames) (k.lost none) has)
 
-    module _ (c : Image) (t : TrimsFiles m (length s.stores) b c) where
+    module _ (c : Image) (t : RevertsFiles m (length s.stores) b c) where
       outside_kept : (f : ℕ) (fs : List (List Record)) → (f < changelog_file 0) ⊎ (changelog_file 0 + length s.stores ≤ f) → HasFrames (a f) fs → HasFrames (c f) fs
       outside_kept f fs out had = same_has f fs b c (t.elsewhere f out) (kept_on f fs had)
 
@@ -217,9 +217,9 @@ module _ {D : Type 0} (reads : D → Image) (number : D → ℕ) (images : D →
 
   pub marks_stores_left : (old mid new : D) (before : Image) (log : Log) (m : Option Checkpoint) → ((k : ℕ) (c : Image) → k ≤ number mid → images mid c → since mid k c)
       → HoldsMark s before (reads mid) (images mid) log m
-      → LeavesOnly number images since old mid (KeepsFrames checkpoint_file) → LeavesOnly number images since mid new (TrimsFiles m (length s.stores)) → LeavesOnly number images since old new (OpeningLeaves s)
+      → LeavesOnly number images since old mid (KeepsFrames checkpoint_file) → LeavesOnly number images since mid new (RevertsFiles m (length s.stores)) → LeavesOnly number images since old new (OpeningLeaves s)
   marks_stores_left old mid new before log m counts h one two =
-      followed_from number images since old mid new (KeepsFrames checkpoint_file) (TrimsFiles m (length s.stores)) (OpeningLeaves s) counts one two
+      followed_from number images since old mid new (KeepsFrames checkpoint_file) (RevertsFiles m (length s.stores)) (OpeningLeaves s) counts one two
       (λ a b c was now k t. stores_leave a b k s few h.frames (has_frames (reads mid) (images mid) checkpoint_file log h.frames h.is_open b now) m h.mark_is c t)
       (λ a b was k. marks_leave a b k s few)
 

@@ -16,7 +16,7 @@ use Rattle.topic_log.specs.Moves.{Rests, Same}
 use Rattle.topic_log.specs.Opened.{Appends, KeepsFrames}
 use Rattle.topic_log.proofs.Logged.{open_log_has}
 use Rattle.topic_log.proofs.Spelling.{frames_unique}
-use Rattle.restore_trim.specs.Crashes.{KeepsLog, KeepsOutputs, TakesBack, Trims, TrimsFile, TrimsFiles}
+use Rattle.restore_trim.specs.Crashes.{KeepsLog, KeepsOutputs, TakesBack, Reverts, RevertsFile, RevertsFiles}
 use Rattle.restore_trim.specs.Standing.{IsOpenAt}
 
 -- a file that is the same has the same frames
@@ -43,11 +43,11 @@ kept_then x y z p q = record {
       q.lost (subst (λ (b : List ℕ). HasNoLog b) (sym same) none) ∙ same;
 }
 
-trims_kept : (count : ℕ) (x y : List ℕ) → KeepsLog x y → Trims count x y
-trims_kept count x y k = record { here = λ fs has. inl (k.here fs has); lost = k.lost }
+reverts_kept : (count : ℕ) (x y : List ℕ) → KeepsLog x y → Reverts count x y
+reverts_kept count x y k = record { here = λ fs has. inl (k.here fs has); lost = k.lost }
 
-kept_trims : (count : ℕ) (x y z : List ℕ) → KeepsLog x y → Trims count y z → Trims count x z
-kept_trims count x y z p q = record {
+kept_reverts : (count : ℕ) (x y z : List ℕ) → KeepsLog x y → Reverts count y z → Reverts count x z
+kept_reverts count x y z p q = record {
   here = λ fs has. q.here fs (p.here fs has);
   lost = λ none.
       let same : y ≡ x = p.lost none in
@@ -55,20 +55,20 @@ kept_trims count x y z p q = record {
 }
 
 -- ---- one store: its changelog is opened, and perhaps appended to
-pub keeps_file : (file count : ℕ) (a b : Image) → KeepsFrames file a b → TrimsFile file count a b
-keeps_file file count a b k = record { here = trims_kept count (a file) (b file) (log_kept file a b k); elsewhere = k.elsewhere }
+pub keeps_file : (file count : ℕ) (a b : Image) → KeepsFrames file a b → RevertsFile file count a b
+keeps_file file count a b k = record { here = reverts_kept count (a file) (b file) (log_kept file a b k); elsewhere = k.elsewhere }
 
-same_file : (file count : ℕ) (a : Image) → TrimsFile file count a a
-same_file file count a = record { here = trims_kept count (a file) (a file) (same_kept (a file) (a file) refl); elsewhere = λ f other. refl }
+same_file : (file count : ℕ) (a : Image) → RevertsFile file count a a
+same_file file count a = record { here = reverts_kept count (a file) (a file) (same_kept (a file) (a file) refl); elsewhere = λ f other. refl }
 
-keeps_then : (file count : ℕ) (a b c : Image) → KeepsFrames file a b → TrimsFile file count b c → TrimsFile file count a c
+keeps_then : (file count : ℕ) (a b c : Image) → KeepsFrames file a b → RevertsFile file count b c → RevertsFile file count a c
 keeps_then file count a b c k t = record {
-  here = kept_trims count (a file) (b file) (c file) (log_kept file a b k) t.here;
+  here = kept_reverts count (a file) (b file) (c file) (log_kept file a b k) t.here;
   elsewhere = λ f other. t.elsewhere f other ∙ k.elsewhere f other;
 }
 
 appends_file : (file count : ℕ) (had more : List (List Record)) (a b : Image) → IsCut frame_batch (reverts_of count (joined had)) more → HasFrames (a file) had
-    → Appends file had more a b → TrimsFile file count a b
+    → Appends file had more a b → RevertsFile file count a b
 appends_file file count had more a b cut was step = record {
   here = record {
     here = λ frames has.
@@ -85,15 +85,15 @@ appends_file file count had more a b cut was step = record {
 }
 
 -- ---- several stores
-pub no_stores : (mark : Option Checkpoint) (a : Image) → TrimsFiles mark 0 a a
+pub no_stores : (mark : Option Checkpoint) (a : Image) → RevertsFiles mark 0 a a
 no_stores mark a = record { each = λ i lt. absurd (omega arith); elsewhere = λ f out. refl }
 
 -- the stores that weren't opened are as they were
-pub all_stores : (mark : Option Checkpoint) (n m : ℕ) (a b : Image) → n ≤ m → TrimsFiles mark n a b → TrimsFiles mark m a b
+pub all_stores : (mark : Option Checkpoint) (n m : ℕ) (a b : Image) → n ≤ m → RevertsFiles mark n a b → RevertsFiles mark m a b
 all_stores mark n m a b le t = record {
   each = λ i lt. elim (cases_lt i n) [
     | inl low ↦ t.each i low
-    | inr high ↦ trims_kept (count_at mark i) (a (changelog_file i)) (b (changelog_file i)) (same_kept (a (changelog_file i)) (b (changelog_file i)) (t.elsewhere (changelog_file i) (inr (omega (arith, high)))))
+    | inr high ↦ reverts_kept (count_at mark i) (a (changelog_file i)) (b (changelog_file i)) (same_kept (a (changelog_file i)) (b (changelog_file i)) (t.elsewhere (changelog_file i) (inr (omega (arith, high)))))
   ];
   elsewhere = λ f out. elim out [
     | inl low ↦ t.elsewhere f (inl low)
@@ -101,17 +101,17 @@ all_stores mark n m a b le t = record {
   ];
 }
 
-one_store : (mark : Option Checkpoint) (n : ℕ) (a b c : Image) → TrimsFiles mark n a b → TrimsFile (changelog_file n) (count_at mark n) b c → TrimsFiles mark (n + 1) a c
+one_store : (mark : Option Checkpoint) (n : ℕ) (a b c : Image) → RevertsFiles mark n a b → RevertsFile (changelog_file n) (count_at mark n) b c → RevertsFiles mark (n + 1) a c
 one_store mark n a b c t one = record {
   each = λ i lt. elim (cases_lt i n) [
     | inl low ↦
         let same : c (changelog_file i) ≡ b (changelog_file i) = one.elsewhere (changelog_file i) (λ e. absurd (omega (arith, e, low))) in
-        subst (λ (y : List ℕ). Trims (count_at mark i) (a (changelog_file i)) y) (sym same) (t.each i low)
+        subst (λ (y : List ℕ). Reverts (count_at mark i) (a (changelog_file i)) y) (sym same) (t.each i low)
     | inr high ↦
         let e : n ≡ i = omega (arith, high, lt) in
         let same : b (changelog_file n) ≡ a (changelog_file n) = t.elsewhere (changelog_file n) (inr (omega arith)) in
-        subst (λ (k : ℕ). Trims (count_at mark k) (a (changelog_file k)) (c (changelog_file k))) e
-        (subst (λ (x : List ℕ). Trims (count_at mark n) x (c (changelog_file n))) same one.here)
+        subst (λ (k : ℕ). Reverts (count_at mark k) (a (changelog_file k)) (c (changelog_file k))) e
+        (subst (λ (x : List ℕ). Reverts (count_at mark n) x (c (changelog_file n))) same one.here)
   ];
   elsewhere = λ f out. elim out [
     | inl low ↦ one.elsewhere f (λ e. absurd (omega (arith, e, low))) ∙ t.elsewhere f (inl low)
@@ -163,44 +163,44 @@ module _ {D : Type 0} (reads : D → Image) (number : D → ℕ) (images : D →
       (λ a b c p same. subst (λ (d : Image). KeepsFrames file a d) (sym same) p) (λ a b p. p)
 
   -- a changelog is opened
-  pub trims_open : (old new : D) (file count : ℕ) → LeavesOnly number images since old new (KeepsFrames file) → LeavesOnly number images since old new (TrimsFile file count)
-  trims_open old new file count run = weaker number images since old new (KeepsFrames file) (TrimsFile file count) run (λ a b now k. keeps_file file count a b k)
+  pub reverts_open : (old new : D) (file count : ℕ) → LeavesOnly number images since old new (KeepsFrames file) → LeavesOnly number images since old new (RevertsFile file count)
+  reverts_open old new file count run = weaker number images since old new (KeepsFrames file) (RevertsFile file count) run (λ a b now k. keeps_file file count a b k)
 
   -- and then more is done to it
-  pub trims_opened : (old mid new : D) (file count : ℕ) → ((k : ℕ) (c : Image) → k ≤ number mid → images mid c → since mid k c)
-      → LeavesOnly number images since old mid (KeepsFrames file) → LeavesOnly number images since mid new (TrimsFile file count) → LeavesOnly number images since old new (TrimsFile file count)
-  trims_opened old mid new file count counts one two =
-      followed number images since old mid new (KeepsFrames file) (TrimsFile file count) (TrimsFile file count) counts one two (keeps_then file count) (keeps_file file count)
+  pub reverts_opened : (old mid new : D) (file count : ℕ) → ((k : ℕ) (c : Image) → k ≤ number mid → images mid c → since mid k c)
+      → LeavesOnly number images since old mid (KeepsFrames file) → LeavesOnly number images since mid new (RevertsFile file count) → LeavesOnly number images since old new (RevertsFile file count)
+  reverts_opened old mid new file count counts one two =
+      followed number images since old mid new (KeepsFrames file) (RevertsFile file count) (RevertsFile file count) counts one two (keeps_then file count) (keeps_file file count)
 
   -- it is read
-  pub trims_read : (old new : D) (file count : ℕ) → Rests reads number images since old new → LeavesOnly number images since old new (TrimsFile file count)
-  trims_read old new file count run =
-      weaker number images since old new Same (TrimsFile file count) run.moves.moment (λ a b now same. subst (λ (c : Image). TrimsFile file count a c) (sym same) (same_file file count a))
+  pub reverts_read : (old new : D) (file count : ℕ) → Rests reads number images since old new → LeavesOnly number images since old new (RevertsFile file count)
+  reverts_read old new file count run =
+      weaker number images since old new Same (RevertsFile file count) run.moves.moment (λ a b now same. subst (λ (c : Image). RevertsFile file count a c) (sym same) (same_file file count a))
 
   -- it is read, and then appended to
-  pub trims_append : (old mid new : D) (file count : ℕ) (log : Log) (had more : List (List Record)) → ((k : ℕ) (c : Image) → k ≤ number mid → images mid c → since mid k c)
+  pub reverts_append : (old mid new : D) (file count : ℕ) (log : Log) (had more : List (List Record)) → ((k : ℕ) (c : Image) → k ≤ number mid → images mid c → since mid k c)
       → IsCut frame_batch (reverts_of count (joined had)) more → IsOpenAt (reads mid) (images mid) file log had
-      → Rests reads number images since old mid → LeavesOnly number images since mid new (Appends file had more) → LeavesOnly number images since old new (TrimsFile file count)
-  trims_append old mid new file count log had more counts cut o read run =
-      followed number images since old mid new Same (TrimsFile file count) (TrimsFile file count) counts read.moves.moment
-      (weaker number images since mid new (Appends file had more) (TrimsFile file count) run
+      → Rests reads number images since old mid → LeavesOnly number images since mid new (Appends file had more) → LeavesOnly number images since old new (RevertsFile file count)
+  reverts_append old mid new file count log had more counts cut o read run =
+      followed number images since old mid new Same (RevertsFile file count) (RevertsFile file count) counts read.moves.moment
+      (weaker number images since mid new (Appends file had more) (RevertsFile file count) run
       (λ a b now step. appends_file file count had more a b cut (has_frames (reads mid) (images mid) file log had o a now) step))
-      (λ a b c same t. subst (λ (d : Image). TrimsFile file count d c) same t)
-      (λ a b same. subst (λ (d : Image). TrimsFile file count a d) (sym same) (same_file file count a))
+      (λ a b c same t. subst (λ (d : Image). RevertsFile file count d c) same t)
+      (λ a b same. subst (λ (d : Image). RevertsFile file count a d) (sym same) (same_file file count a))
 
   -- the stores so far, and one more
-  pub stores_left : (old : D) (mark : Option Checkpoint) → ((c : Image) → since old (number old) c → images old c) → LeavesOnly number images since old old (TrimsFiles mark 0)
-  stores_left old mark only = started number images since old (TrimsFiles mark 0) only (λ c now. (c, now, no_stores mark c))
+  pub stores_left : (old : D) (mark : Option Checkpoint) → ((c : Image) → since old (number old) c → images old c) → LeavesOnly number images since old old (RevertsFiles mark 0)
+  stores_left old mark only = started number images since old (RevertsFiles mark 0) only (λ c now. (c, now, no_stores mark c))
 
   pub stores_then : (old mid new : D) (mark : Option Checkpoint) (n : ℕ) → ((k : ℕ) (c : Image) → k ≤ number mid → images mid c → since mid k c)
-      → LeavesOnly number images since old mid (TrimsFiles mark n) → LeavesOnly number images since mid new (TrimsFile (changelog_file n) (count_at mark n))
-      → LeavesOnly number images since old new (TrimsFiles mark (n + 1))
+      → LeavesOnly number images since old mid (RevertsFiles mark n) → LeavesOnly number images since mid new (RevertsFile (changelog_file n) (count_at mark n))
+      → LeavesOnly number images since old new (RevertsFiles mark (n + 1))
   stores_then old mid new mark n counts one two =
-      followed number images since old mid new (TrimsFiles mark n) (TrimsFile (changelog_file n) (count_at mark n)) (TrimsFiles mark (n + 1)) counts one two
+      followed number images since old mid new (RevertsFiles mark n) (RevertsFile (changelog_file n) (count_at mark n)) (RevertsFiles mark (n + 1)) counts one two
       (one_store mark n) (λ a b t. all_stores mark n (n + 1) a b (omega arith) t)
 
-  pub stores_done : (old new : D) (mark : Option Checkpoint) (n m : ℕ) → n ≤ m → LeavesOnly number images since old new (TrimsFiles mark n) → LeavesOnly number images since old new (TrimsFiles mark m)
-  stores_done old new mark n m le run = weaker number images since old new (TrimsFiles mark n) (TrimsFiles mark m) run (λ a b now t. all_stores mark n m a b le t)
+  pub stores_done : (old new : D) (mark : Option Checkpoint) (n m : ℕ) → n ≤ m → LeavesOnly number images since old new (RevertsFiles mark n) → LeavesOnly number images since old new (RevertsFiles mark m)
+  stores_done old new mark n m le run = weaker number images since old new (RevertsFiles mark n) (RevertsFiles mark m) run (λ a b now t. all_stores mark n m a b le t)
 
   -- the outputs so far, and one more
   pub outputs_left : (old : D) → ((c : Image) → since old (number old) c → images old c) → LeavesOnly number images since old old (KeepsOutputs 0)

@@ -45,18 +45,18 @@ pub record KeepsLog (old new : List ℕ) : Type 0 where
   pub lost : HasNoLog old → new ≡ old
 
 -- Of one changelog: the same, or behind its frames stands what takes the records behind the first so many back.
-pub record Trims (count : ℕ) (old new : List ℕ) : Type 0 where
+pub record Reverts (count : ℕ) (old new : List ℕ) : Type 0 where
   pub here : (frames : List (List Record)) → HasFrames old frames → HasFrames new frames ⊎ TakesBack count frames new
   pub lost : HasNoLog old → new ≡ old
 
 -- one store is opened
-pub record TrimsFile (file count : ℕ) (old new : Image) : Type 0 where
-  pub here : Trims count (old file) (new file)
+pub record RevertsFile (file count : ℕ) (old new : Image) : Type 0 where
+  pub here : Reverts count (old file) (new file)
   pub elsewhere : SameElsewhere file old new
 
 -- the first so many stores are opened
-pub record TrimsFiles (mark : Option Checkpoint) (n : ℕ) (old new : Image) : Type 0 where
-  pub each : (i : ℕ) → i < n → Trims (count_at mark i) (old (store_file mark i)) (new (store_file mark i))
+pub record RevertsFiles (mark : Option Checkpoint) (n : ℕ) (old new : Image) : Type 0 where
+  pub each : (i : ℕ) → i < n → Reverts (count_at mark i) (old (store_file mark i)) (new (store_file mark i))
   pub elsewhere : SameOutside (changelog_file 0) n old new
 
 -- the first so many outputs are opened

@@ -8,7 +8,7 @@ mod lists;
 mod naming;
 mod opening;
 mod restoring;
-mod trimming;
+mod reverting;
 
 pub use faults::OpenFault;
 pub use laws::restores_to_one;

@@ -10,14 +10,14 @@ ghost use Rattle.disk_model.specs.Images.{LeavesOnly};
 ghost use Rattle.kv_store.specs.Tracked.{AreWithinLimits};
 ghost use Rattle.topic_log.specs.declared.logs.Log.{Log as LogValue};
 ghost use Rattle.topic_log.specs.Opened.{file_of, count_of, is_broken, IsOpen};
-ghost use Rattle.restore_trim.specs.Crashes.{KeepsOutputs, OpeningLeaves, TrimsFiles};
+ghost use Rattle.restore_trim.specs.Crashes.{KeepsOutputs, OpeningLeaves, RevertsFiles};
 ghost use Rattle.restore_trim.specs.Refused.{FilesHold, StoresOpen, TellsFiles, TellsOutputs, TellsStores, WhyNoStores, WhyNoOutputs, WhyRefused};
 ghost use Rattle.restore_trim.specs.Standing.{AllSound, HoldsStores, HoldsOutputs, IsRestored, OthersStay, SameFrom, SameOutside};
 
 use crate::OpenFault;
 use crate::lists::put;
 use crate::opening::{open_file, open_marks};
-use crate::trimming::open_store;
+use crate::reverting::open_store;
 use changelog::Changelog;
 use disk_model::Disk;
 use kv_store::Table;
@@ -70,7 +70,7 @@ fn open_stores<D: Disk>(
     ensures others { OnOk result (D.tells → (log : LogValue) (frames : List (List Record)) → file_of log ≡ checkpoint_file → IsOpen (D.reads disk.old) (D.images disk.old) log frames → IsOpen (D.reads disk.new) (D.images disk.new) log frames) }
     ensures why { IfErr result (λ e. D.tells → WhyNoStores (D.reads disk.old) mark.now stores e) }
     ensures told { IfErr result (TellsStores stores) }
-    ensures any_moment { D.tells → LeavesOnly D.call_number D.images D.images_since disk.old disk.new (TrimsFiles mark.now stores) }
+    ensures any_moment { D.tells → LeavesOnly D.call_number D.images D.images_since disk.old disk.new (RevertsFiles mark.now stores) }
     ensures refused { IfErr result (λ e. e ≢ OpenFault.Device → D.tells → SameFrom (changelog_file stores) (D.reads disk.old) (D.reads disk.new)) }
     ensures device { IfErr result (λ e. e ≡ OpenFault.Device → Rose (D.fault_count disk.old) (D.fault_count disk.new)) }
     ensures later { D.fault_count disk.old ≤ D.fault_count disk.new }

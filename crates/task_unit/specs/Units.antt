@@ -55,15 +55,15 @@ abbrev pub SameFrames : Image → Image → ℕ → Type 0
 SameFrames before after file = (frames : List (List Record)) → HasFrames (before file) frames ↔ HasFrames (after file) frames
 
 -- a changelog has the frames that it had and, behind them, what takes the records behind so many back, in frames of at most `frame_batch`
-abbrev pub IsTrimmed : ℕ → List ℕ → List ℕ → Type 0
-IsTrimmed count before after = (frames : List (List Record)) → HasFrames before frames
+abbrev pub IsReverted : ℕ → List ℕ → List ℕ → Type 0
+IsReverted count before after = (frames : List (List Record)) → HasFrames before frames
     → (reverts : List (List Record)) × IsCut frame_batch (reverts_of count (joined frames)) reverts × HasFrames after (frames ++ reverts)
 
 -- the checkpoint file and each output's log have the frames that they had, and each changelog has its records behind those that
 -- the checkpoint counts taken back
 pub record LogsStay (s : Setup) (mark : Option Checkpoint) (before after : Image) : Type 0 where
   pub marks : SameFrames before after checkpoint_file
-  pub changelogs : (i : ℕ) → i < length s.stores → IsTrimmed (count_at mark i) (before (store_file mark i)) (after (store_file mark i))
+  pub changelogs : (i : ℕ) → i < length s.stores → IsReverted (count_at mark i) (before (store_file mark i)) (after (store_file mark i))
   pub outputs : (j : ℕ) → j < length s.outputs → SameFrames before after (output_file j)
 
 -- all records of each changelog make its store's content

@@ -8,7 +8,7 @@ use Rattle.topic_log.specs.declared.logs.Log.{Log}
 use Rattle.samza_model.specs.Files.{changelog_file}
 use Rattle.topic_log.specs.Opened.{is_broken}
 use Rattle.disk_model.specs.Images.{LeavesOnly}
-use Rattle.restore_trim.specs.Crashes.{TrimsFile}
+use Rattle.restore_trim.specs.Crashes.{RevertsFile}
 use Rattle.restore_trim.specs.Refused.{StoreOpens, WhyNoStore}
 use Rattle.restore_trim.specs.Standing.{AllSound, HoldsStore}
 use Rattle.restore_trim.proofs.SoFar.{stores_step, store_refused}
@@ -36,7 +36,7 @@ loop-i-preserved g c =
       subst (λ (l : List Content). All AreWithinLimits l) (sym c.in-Ok-put-2.ensures) (All-push AreWithinLimits c.loop-i.tables.items c.in-Ok.opened.1 c.loop-i.invariant.4 c.in-Ok.ensures.limits),
       record {
         moment = λ told. stores_then disk.reads disk.call_number disk.images disk.images_since c.args.disk.now c.loop-i.disk c.open_store.new.disk c.args.mark.now c.loop-i.i (λ k f le left. law.counts_now c.loop-i.disk k f told le left) (c.loop-i.invariant.5.moment told)
-            (subst (λ n. LeavesOnly disk.call_number disk.images disk.images_since c.loop-i.disk c.open_store.new.disk (TrimsFile (changelog_file c.loop-i.i) n)) c.counted.ensures (c.open_store.ensures.any_moment told));
+            (subst (λ n. LeavesOnly disk.call_number disk.images disk.images_since c.loop-i.disk c.open_store.new.disk (RevertsFile (changelog_file c.loop-i.i) n)) c.counted.ensures (c.open_store.ensures.any_moment told));
       },
       search rules,
     )
@@ -70,7 +70,7 @@ returns-in-Err-clause-any_moment g c = λ told.
     let law = (g.met.D.Disk g.world.𝓛 g.world.𝓜 g.world.𝓡 ((λ s x. x), (λ x. x), (λ x. x), λ x. x)) in
     stores_done disk.reads disk.call_number disk.images disk.images_since c.args.disk.now c.open_store.new.disk c.args.mark.now (c.loop-i.i + 1) c.args.stores (omega (arith, c.loop-i-test.true))
     (stores_then disk.reads disk.call_number disk.images disk.images_since c.args.disk.now c.loop-i.disk c.open_store.new.disk c.args.mark.now c.loop-i.i (λ k f le left. law.counts_now c.loop-i.disk k f told le left) (c.loop-i.invariant.5.moment told)
-    (subst (λ n. LeavesOnly disk.call_number disk.images disk.images_since c.loop-i.disk c.open_store.new.disk (TrimsFile (changelog_file c.loop-i.i) n)) c.counted.ensures (c.open_store.ensures.any_moment told)))
+    (subst (λ n. LeavesOnly disk.call_number disk.images disk.images_since c.loop-i.disk c.open_store.new.disk (RevertsFile (changelog_file c.loop-i.i) n)) c.counted.ensures (c.open_store.ensures.any_moment told)))
 
 pub returns-in-Err-put-clause-any_moment : goal.returns-in-Err-put-clause-any_moment
 returns-in-Err-put-clause-any_moment g c = λ told.
@@ -78,7 +78,7 @@ returns-in-Err-put-clause-any_moment g c = λ told.
     let law = (g.met.D.Disk g.world.𝓛 g.world.𝓜 g.world.𝓡 ((λ s x. x), (λ x. x), (λ x. x), λ x. x)) in
     stores_done disk.reads disk.call_number disk.images disk.images_since c.args.disk.now c.open_store.new.disk c.args.mark.now (c.loop-i.i + 1) c.args.stores (omega (arith, c.loop-i-test.true))
     (stores_then disk.reads disk.call_number disk.images disk.images_since c.args.disk.now c.loop-i.disk c.open_store.new.disk c.args.mark.now c.loop-i.i (λ k f le left. law.counts_now c.loop-i.disk k f told le left) (c.loop-i.invariant.5.moment told)
-    (subst (λ n. LeavesOnly disk.call_number disk.images disk.images_since c.loop-i.disk c.open_store.new.disk (TrimsFile (changelog_file c.loop-i.i) n)) c.counted.ensures (c.open_store.ensures.any_moment told)))
+    (subst (λ n. LeavesOnly disk.call_number disk.images disk.images_since c.loop-i.disk c.open_store.new.disk (RevertsFile (changelog_file c.loop-i.i) n)) c.counted.ensures (c.open_store.ensures.any_moment told)))
 
 pub returns-in-Err-put-2-clause-any_moment : goal.returns-in-Err-put-2-clause-any_moment
 returns-in-Err-put-2-clause-any_moment g c = λ told.
@@ -86,7 +86,7 @@ returns-in-Err-put-2-clause-any_moment g c = λ told.
     let law = (g.met.D.Disk g.world.𝓛 g.world.𝓜 g.world.𝓡 ((λ s x. x), (λ x. x), (λ x. x), λ x. x)) in
     stores_done disk.reads disk.call_number disk.images disk.images_since c.args.disk.now c.open_store.new.disk c.args.mark.now (c.loop-i.i + 1) c.args.stores (omega (arith, c.loop-i-test.true))
     (stores_then disk.reads disk.call_number disk.images disk.images_since c.args.disk.now c.loop-i.disk c.open_store.new.disk c.args.mark.now c.loop-i.i (λ k f le left. law.counts_now c.loop-i.disk k f told le left) (c.loop-i.invariant.5.moment told)
-    (subst (λ n. LeavesOnly disk.call_number disk.images disk.images_since c.loop-i.disk c.open_store.new.disk (TrimsFile (changelog_file c.loop-i.i) n)) c.counted.ensures (c.open_store.ensures.any_moment told)))
+    (subst (λ n. LeavesOnly disk.call_number disk.images disk.images_since c.loop-i.disk c.open_store.new.disk (RevertsFile (changelog_file c.loop-i.i) n)) c.counted.ensures (c.open_store.ensures.any_moment told)))
 
 pub returns-clause-any_moment : goal.returns-clause-any_moment
 returns-clause-any_moment g c = λ told.

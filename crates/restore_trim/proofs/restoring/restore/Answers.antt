@@ -5,7 +5,7 @@ use Rattle.samza_model.specs.Files.{changelog_file, output_file}
 use Rattle.kv_store.specs.Tracked.{AreWithinLimits}
 use Rattle.topic_log.specs.declared.logs.Log.{Log}
 use Rattle.disk_model.specs.Images.{LeavesOnly}
-use Rattle.restore_trim.specs.Crashes.{KeepsOutputs, OpeningLeaves, TrimsFiles}
+use Rattle.restore_trim.specs.Crashes.{KeepsOutputs, OpeningLeaves, RevertsFiles}
 use Rattle.restore_trim.specs.Refused.{StoresOpen, TellsStores, WhyNoStores, WhyNoOutputs}
 use Rattle.restore_trim.specs.Standing.{HoldsStores, HoldsOutputs, IsRestored, SameFrom, SameOutside}
 use Rattle.restore_trim.proofs.Others.{opened_others, stores_others}
@@ -87,7 +87,7 @@ returns-in-Err-open_stores-clause-any_moment g c = λ told.
     let d2 = c.open_stores.new.disk in
     let s = c.args.setup.now in
     let few : length s.stores ≤ 15 = omega (arith, c.requires.few_stores) in
-    let stores = subst (λ (xs : List StoreSetup). LeavesOnly disk.call_number disk.images disk.images_since d1 d2 (TrimsFiles c.in-Ok.opened.1 (length xs))) c.as_slice.ensures (c.open_stores.ensures.any_moment told) in
+    let stores = subst (λ (xs : List StoreSetup). LeavesOnly disk.call_number disk.images disk.images_since d1 d2 (RevertsFiles c.in-Ok.opened.1 (length xs))) c.as_slice.ensures (c.open_stores.ensures.any_moment told) in
     let opened = marks_stores_left disk.reads disk.call_number disk.images disk.images_since s few d0 d1 d2 (disk.reads d0) c.in-Ok.opened.0 c.in-Ok.opened.1 (λ k f le left. law.counts_now d1 k f told le left) (c.in-Ok.ensures.mark told) (c.open_marks.ensures.any_moment told) stores in
     opened
 
@@ -100,7 +100,7 @@ returns-in-Err-open_outputs-clause-any_moment g c = λ told.
     let d2 = c.open_stores.new.disk in
     let s = c.args.setup.now in
     let few : length s.stores ≤ 15 = omega (arith, c.requires.few_stores) in
-    let stores = subst (λ (xs : List StoreSetup). LeavesOnly disk.call_number disk.images disk.images_since d1 d2 (TrimsFiles c.in-Ok.opened.1 (length xs))) c.as_slice.ensures (c.open_stores.ensures.any_moment told) in
+    let stores = subst (λ (xs : List StoreSetup). LeavesOnly disk.call_number disk.images disk.images_since d1 d2 (RevertsFiles c.in-Ok.opened.1 (length xs))) c.as_slice.ensures (c.open_stores.ensures.any_moment told) in
     let opened = marks_stores_left disk.reads disk.call_number disk.images disk.images_since s few d0 d1 d2 (disk.reads d0) c.in-Ok.opened.0 c.in-Ok.opened.1 (λ k f le left. law.counts_now d1 k f told le left) (c.in-Ok.ensures.mark told) (c.open_marks.ensures.any_moment told) stores in
     let d3 = c.open_outputs.new.disk in
     let outputs = subst (λ (xs : List (List ℕ)). LeavesOnly disk.call_number disk.images disk.images_since d2 d3 (KeepsOutputs (length xs))) c.as_slice-2.ensures (c.open_outputs.ensures.any_moment told) in
@@ -115,7 +115,7 @@ returns-clause-any_moment g c = λ told.
     let d2 = c.open_stores.new.disk in
     let s = c.args.setup.now in
     let few : length s.stores ≤ 15 = omega (arith, c.requires.few_stores) in
-    let stores = subst (λ (xs : List StoreSetup). LeavesOnly disk.call_number disk.images disk.images_since d1 d2 (TrimsFiles c.in-Ok.opened.1 (length xs))) c.as_slice.ensures (c.open_stores.ensures.any_moment told) in
+    let stores = subst (λ (xs : List StoreSetup). LeavesOnly disk.call_number disk.images disk.images_since d1 d2 (RevertsFiles c.in-Ok.opened.1 (length xs))) c.as_slice.ensures (c.open_stores.ensures.any_moment told) in
     let opened = marks_stores_left disk.reads disk.call_number disk.images disk.images_since s few d0 d1 d2 (disk.reads d0) c.in-Ok.opened.0 c.in-Ok.opened.1 (λ k f le left. law.counts_now d1 k f told le left) (c.in-Ok.ensures.mark told) (c.open_marks.ensures.any_moment told) stores in
     let d3 = c.open_outputs.new.disk in
     let outputs = subst (λ (xs : List (List ℕ)). LeavesOnly disk.call_number disk.images disk.images_since d2 d3 (KeepsOutputs (length xs))) c.as_slice-2.ensures (c.open_outputs.ensures.any_moment told) in

@@ -1,7 +1,7 @@
 use Rattle.std.proofs.Common.{ap}
 use Rattle.samza_model.specs.Files.{Image, changelog_file}
 use Rattle.restore_trim.proofs.Telling.{no_device}
-use Rattle.restore_trim.proofs.trimming.open_changes.Goals as goal
+use Rattle.restore_trim.proofs.reverting.open_changes.Goals as goal
 
 pub returns-in-Err-clause-refused : goal.returns-in-Err-clause-refused
 returns-in-Err-clause-refused g c = λ other told f ne.

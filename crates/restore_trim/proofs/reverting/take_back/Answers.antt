@@ -15,8 +15,8 @@ use Rattle.restore_trim.specs.Standing.{HoldsStore, IsOpenAt}
 use Rattle.restore_trim.proofs.Openings.{written_fault}
 use Rattle.restore_trim.proofs.Taking.{counted_holds, counted_opens, lacks_room, taken_back, taken_opens}
 use Rattle.restore_trim.proofs.Telling.{no_device}
-use Rattle.restore_trim.proofs.Tails.{trims_append, trims_read}
-use Rattle.restore_trim.proofs.trimming.take_back.Goals as goal
+use Rattle.restore_trim.proofs.Tails.{reverts_append, reverts_read}
+use Rattle.restore_trim.proofs.reverting.take_back.Goals as goal
 
 pub returns-then-len-count-clause-store : goal.returns-then-len-count-clause-store
 returns-then-len-count-clause-store g c = λ told.
@@ -57,21 +57,21 @@ returns-then-len-count-clause-any_moment g c = λ told.
     let disk = g.D.Disk in
     let d0 = c.args.disk.now in
     let d1 = c.fold.new.disk in
-    trims_read disk.reads disk.call_number disk.images disk.images_since d0 d1 (changelog_file c.args.store) c.args.count (c.fold.ensures.rests told)
+    reverts_read disk.reads disk.call_number disk.images disk.images_since d0 d1 (changelog_file c.args.store) c.args.count (c.fold.ensures.rests told)
 
 pub returns-in-Err-clause-any_moment : goal.returns-in-Err-clause-any_moment
 returns-in-Err-clause-any_moment g c = λ told.
     let disk = g.D.Disk in
     let d0 = c.args.disk.now in
     let d1 = c.fold.new.disk in
-    trims_read disk.reads disk.call_number disk.images disk.images_since d0 d1 (changelog_file c.args.store) c.args.count (c.fold.ensures.rests told)
+    reverts_read disk.reads disk.call_number disk.images disk.images_since d0 d1 (changelog_file c.args.store) c.args.count (c.fold.ensures.rests told)
 
 pub returns-in-Err-revert_frames-clause-any_moment : goal.returns-in-Err-revert_frames-clause-any_moment
 returns-in-Err-revert_frames-clause-any_moment g c = λ told.
     let disk = g.D.Disk in
     let d0 = c.args.disk.now in
     let d1 = c.fold.new.disk in
-    trims_read disk.reads disk.call_number disk.images disk.images_since d0 d1 (changelog_file c.args.store) c.args.count (c.fold.ensures.rests told)
+    reverts_read disk.reads disk.call_number disk.images disk.images_since d0 d1 (changelog_file c.args.store) c.args.count (c.fold.ensures.rests told)
 
 pub returns-in-Ok-write-clause-store : goal.returns-in-Ok-write-clause-store
 returns-in-Ok-write-clause-store g c = λ told.
@@ -142,7 +142,7 @@ returns-in-Ok-write-clause-any_moment g c = λ told.
     subst (λ (l : Log). IsOpenAt (disk.reads d1) (disk.images d1) (changelog_file store) l frames) (sym same) (record { file_is = o.file_is; sound = o.sound; is_open = c.fold.ensures.others told log frames o.is_open }) in
     let law = (g.met.D.Disk g.world.𝓛 g.world.𝓜 g.world.𝓡 ((λ s x. x), (λ x. x), (λ x. x), λ x. x)) in
     let real = subst (λ (rs : List Record). IsCut frame_batch rs lists) (records_of-fold count (joined frames) c.in-Ok.folded.0 c.in-Ok.folded.1.items fold) is_cut in
-    trims_append disk.reads disk.call_number disk.images disk.images_since d0 d1 d2 (changelog_file store) count c.fold.new.self frames lists (λ k f le left. law.counts_now d1 k f told le left) real o1 (c.fold.ensures.rests told)
+    reverts_append disk.reads disk.call_number disk.images disk.images_since d0 d1 d2 (changelog_file store) count c.fold.new.self frames lists (λ k f le left. law.counts_now d1 k f told le left) real o1 (c.fold.ensures.rests told)
     (subst (λ (f : ℕ). LeavesOnly disk.call_number disk.images disk.images_since d1 d2 (Appends f frames lists)) o1.file_is (c.write.ensures.any_moment told frames lists o1.is_open are))
 
 pub returns-in-Err-write-clause-any_moment : goal.returns-in-Err-write-clause-any_moment
@@ -167,7 +167,7 @@ returns-in-Err-write-clause-any_moment g c = λ told.
     subst (λ (l : Log). IsOpenAt (disk.reads d1) (disk.images d1) (changelog_file store) l frames) (sym same) (record { file_is = o.file_is; sound = o.sound; is_open = c.fold.ensures.others told log frames o.is_open }) in
     let law = (g.met.D.Disk g.world.𝓛 g.world.𝓜 g.world.𝓡 ((λ s x. x), (λ x. x), (λ x. x), λ x. x)) in
     let real = subst (λ (rs : List Record). IsCut frame_batch rs lists) (records_of-fold count (joined frames) c.in-Ok.folded.0 c.in-Ok.folded.1.items fold) is_cut in
-    trims_append disk.reads disk.call_number disk.images disk.images_since d0 d1 d2 (changelog_file store) count c.fold.new.self frames lists (λ k f le left. law.counts_now d1 k f told le left) real o1 (c.fold.ensures.rests told)
+    reverts_append disk.reads disk.call_number disk.images disk.images_since d0 d1 d2 (changelog_file store) count c.fold.new.self frames lists (λ k f le left. law.counts_now d1 k f told le left) real o1 (c.fold.ensures.rests told)
     (subst (λ (f : ℕ). LeavesOnly disk.call_number disk.images disk.images_since d1 d2 (Appends f frames lists)) o1.file_is (c.write.ensures.any_moment told frames lists o1.is_open are))
 
 pub returns-in-Err-write-clause-why : goal.returns-in-Err-write-clause-why

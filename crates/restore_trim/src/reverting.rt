@@ -11,7 +11,7 @@ ghost use Rattle.log_frame.specs.Cuts.{IsCut};
 ghost use Rattle.log_frame.specs.Frame.{AreFrames};
 ghost use Rattle.topic_log.specs.declared.logs.Log.{Log as LogValue};
 ghost use Rattle.topic_log.specs.Opened.{file_of, count_of, is_broken, IsOpen, KeepsFrames};
-ghost use Rattle.restore_trim.specs.Crashes.{TrimsFile};
+ghost use Rattle.restore_trim.specs.Crashes.{RevertsFile};
 ghost use Rattle.restore_trim.specs.Refused.{IsMiscount, StoreOpens, TellsStore, WhyNoStore};
 ghost use Rattle.restore_trim.specs.Standing.{IsOpenAt, StandsAt, HoldsStore};
 
@@ -104,7 +104,7 @@ fn take_back<D: Disk>(
     ensures others { D.tells → (log : LogValue) (frames : List (List Record)) → file_of log ≢ changelog_file store → IsOpen (D.reads disk.old) (D.images disk.old) log frames → IsOpen (D.reads disk.new) (D.images disk.new) log frames }
     ensures why { IfErr result (λ e. D.tells → WhyNoStore (D.reads disk.old) store count e) }
     ensures told { IfErr result (TellsStore store) }
-    ensures any_moment { D.tells → LeavesOnly D.call_number D.images D.images_since disk.old disk.new (TrimsFile (changelog_file store) count) }
+    ensures any_moment { D.tells → LeavesOnly D.call_number D.images D.images_since disk.old disk.new (RevertsFile (changelog_file store) count) }
     ensures refused { IfErr result (λ e. e ≢ OpenFault.Device → D.tells → SameElsewhere (changelog_file store) (D.reads disk.old) (D.reads disk.new)) }
     ensures device { IfErr result (λ e. e ≡ OpenFault.Device → Rose (D.fault_count disk.old) (D.fault_count disk.new)) }
     ensures later { D.fault_count disk.old ≤ D.fault_count disk.new }
@@ -144,7 +144,7 @@ pub(crate) fn open_store<D: Disk>(
     ensures others { D.tells → (log : LogValue) (frames : List (List Record)) → file_of log ≢ changelog_file store → IsOpen (D.reads disk.old) (D.images disk.old) log frames → IsOpen (D.reads disk.new) (D.images disk.new) log frames }
     ensures why { IfErr result (λ e. D.tells → WhyNoStore (D.reads disk.old) store count e) }
     ensures told { IfErr result (TellsStore store) }
-    ensures any_moment { D.tells → LeavesOnly D.call_number D.images D.images_since disk.old disk.new (TrimsFile (changelog_file store) count) }
+    ensures any_moment { D.tells → LeavesOnly D.call_number D.images D.images_since disk.old disk.new (RevertsFile (changelog_file store) count) }
     ensures refused { IfErr result (λ e. e ≢ OpenFault.Device → D.tells → SameElsewhere (changelog_file store) (D.reads disk.old) (D.reads disk.new)) }
     ensures device { IfErr result (λ e. e ≡ OpenFault.Device → Rose (D.fault_count disk.old) (D.fault_count disk.new)) }
     ensures later { D.fault_count disk.old ≤ D.fault_count disk.new }
