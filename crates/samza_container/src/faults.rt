@@ -6,7 +6,9 @@ use disk_model::HostFault;
 use job_config::What;
 use samza_model::{Bin, Failure, NoMemory, Ssp, TaskName, Why};
 use std::alloc::Global;
-use task_unit::OpenFault;
+use std::error::Error;
+use std::fmt;
+use task_unit::{OneFault, OpenFault};
 
 /// Why a run ended otherwise than well: the first cause in the order of work.
 #[derive(Debug, Drop)]
@@ -35,6 +37,42 @@ pub enum RunFault {
     Limit,
     NoMemory,
 }
+
+/// One phrase a cause. The line that the program prints of it is `fault_line`'s, which names the task and its inputs too.
+impl fmt::Display for RunFault {
+    fn fmt<W: fmt::Write>(&self, f: &mut fmt::Formatter<W>) -> fmt::Result {
+        match self {
+            RunFault::Words { place } => write!(f, "no command at word {place}"),
+            RunFault::NoText => write!(f, "no job.properties"),
+            RunFault::TextLimit => write!(f, "job.properties too long"),
+            RunFault::BadEscape { line } => write!(f, "malformed escape in line {line}"),
+            RunFault::BadKey { key, what } => {
+                write_key(f, key)?;
+                write!(f, ": {what}")
+            }
+            RunFault::NotBuilt { key } => {
+                write_key(f, key)?;
+                write!(f, ": not built")
+            }
+            RunFault::NoPartition => write!(f, "input has no partition"),
+            RunFault::Device => write!(f, "device failed"),
+            RunFault::NotOpened(fault) => write!(f, "task not opened: {fault}"),
+            RunFault::Failed(failure) => write!(f, "{}", OneFault::Failed(*failure)),
+            RunFault::Limit => write!(f, "file too long"),
+            RunFault::NoMemory => write!(f, "no memory"),
+        }
+    }
+}
+
+/// Writes a key, each byte as the character of its number.
+fn write_key<W: fmt::Write>(f: &mut fmt::Formatter<W>, key: &Bin) -> fmt::Result {
+    for byte in key.bytes() {
+        f.write_char(char::from(*byte))?;
+    }
+    Ok(())
+}
+
+impl Error for RunFault {}
 
 impl From<NoMemory> for RunFault {
     ghost use Rattle.std.specs.Prelude.{◌≡◌};
