@@ -25,7 +25,7 @@ use Rattle.samza_container.specs.declared.faults.RunFault.{RunFault}
 use Rattle.samza_container.specs.declared.faults.RunFault.TheVariants.{Words, NoText, TextLimit, BadEscape, BadKey, NotBuilt, NoPartition, Device, NotOpened, Failed, Limit, NoMemory}
 use Rattle.samza_container.specs.Causes.{IsJobOf, IsReady, IsSetUpBy, Runnable, WhyNotReady, WhyStopped, WhyUnfinished, open_status, status_of}
 use Rattle.samza_container.specs.Configured.{configured, set_up_by, input_disk, task_disk}
-use Rattle.samza_container.specs.Runs.{fresh, CanRun, Does, Fails, FailsFrom, Fills, FillsFrom, Start}
+use Rattle.samza_container.specs.Runs.{fresh, CanRun, Does, FailsMessage, FailsMessageFrom, FillsFile, FillsFileFrom, Start}
 use Rattle.samza_container.specs.Words.{IsCommand, IsRefusedAt}
 use Rattle.samza_container.proofs.Advancing.{undone}
 use Rattle.samza_container.proofs.Failing.{has_message, one_failed}
@@ -89,35 +89,35 @@ module _ (s : Setup) (input : List ℕ) (before : Image) (a b : Start s input be
       (subst (λ (c : List Content). R a.mark c b.messages b.begun) one.1
       (subst (λ (m : Option Checkpoint). R m b.stores b.messages b.begun) one.0 r)))
 
-  fails_there : (job : Meaning) (f : Failure) → FailsFrom job s b.messages b.begun b.begun (fresh s b.stores) f → FailsFrom job s a.messages a.begun a.begun (fresh s a.stores) f
-  fails_there job f = as_start (λ mark stores messages begun. FailsFrom job s messages begun begun (fresh s stores) f)
+  fails_there : (job : Meaning) (f : Failure) → FailsMessageFrom job s b.messages b.begun b.begun (fresh s b.stores) f → FailsMessageFrom job s a.messages a.begun a.begun (fresh s a.stores) f
+  fails_there job f = as_start (λ mark stores messages begun. FailsMessageFrom job s messages begun begun (fresh s stores) f)
 
 -- where the job failed a message, it didn't do all
-failed_not_done : (job : Meaning) (s : Setup) (messages : List Record) (begun from : ℕ) (old left : State) (f : Failure) → FailsFrom job s messages begun from old f → Does job s messages from (length messages) old left → ⊥
+failed_not_done : (job : Meaning) (s : Setup) (messages : List Record) (begun from : ℕ) (old left : State) (f : Failure) → FailsMessageFrom job s messages begun from old f → Does job s messages from (length messages) old left → ⊥
 failed_not_done job s messages begun from old left f fails does =
     undone job s messages from fails.reached old fails.left fails.failed.message fails.does fails.failed.is_next
     (length messages) (has_message s messages fails.reached fails.failed.message fails.failed.is_next) left f.why fails.failed.ended does
 
 module _ (job : Meaning) (s : Setup) (input : List ℕ) (before : Image) where
-  not_failed : (f : Failure) → CanRun job s input before → Fails job s input before f → ⊥
+  not_failed : (f : Failure) → CanRun job s input before → FailsMessage job s input before f → ⊥
   not_failed f can fails =
       let a = can.start in
       failed_not_done job s a.messages a.begun a.begun (fresh s a.stores) can.left f (fails_there s input before a fails.start job f fails.fails) can.does
 
-  not_full : CanRun job s input before → Fills job s input before → ⊥
+  not_full : CanRun job s input before → FillsFile job s input before → ⊥
   not_full can fills =
       let a = can.start in
       let b = fills.start in
       can.room fills.logs
       (as_start s input before a b (λ mark stores messages begun. LogsStay s mark before fills.logs) fills.stay)
-      (as_start s input before a b (λ mark stores messages begun. FillsFrom job s fills.logs mark messages begun (fresh s stores)) fills.fills)
+      (as_start s input before a b (λ mark stores messages begun. FillsFileFrom job s fills.logs mark messages begun (fresh s stores)) fills.fills)
 
-  fails_or_fills : (f : Failure) → Fails job s input before f → Fills job s input before → ⊥
+  fails_or_fills : (f : Failure) → FailsMessage job s input before f → FillsFile job s input before → ⊥
   fails_or_fills f fails fills =
       let a = fills.start in
       failed_not_done job s a.messages a.begun a.begun (fresh s a.stores) fills.fills.left f (fails_there s input before a fails.start job f fails.fails) fills.fills.does
 
-  one_failure : (f f' : Failure) → Fails job s input before f → Fails job s input before f' → f ≡ f'
+  one_failure : (f f' : Failure) → FailsMessage job s input before f → FailsMessage job s input before f' → f ≡ f'
   one_failure f f' fails fails' =
       let a = fails.start in
       one_failed job s a.messages a.begun a.begun (fresh s a.stores) f f' fails.fails (fails_there s input before a fails'.start job f' fails'.fails)
@@ -151,8 +151,8 @@ not_unfinished job s input before NoMemory can device memory why = memory refl
 -- how a task isn't run to its end, with the fault that tells it
 data Ending (job : Meaning) (s : Setup) (input : List ℕ) (before : Image) (e : RunFault) : Type 0 where
   shut : (o : OpenFault) → open_status o ≢ 4 → open_status o ≢ 8 → e ≡ NotOpened o → WhyNotOpened (Unit {0}) (Unit {0}) s before input o → Ending job s input before e
-  failing : (f : Failure) → e ≡ Failed f → Fails job s input before f → Ending job s input before e
-  full : e ≡ Limit → Fills job s input before → Ending job s input before e
+  failing : (f : Failure) → e ≡ Failed f → FailsMessage job s input before f → Ending job s input before e
+  full : e ≡ Limit → FillsFile job s input before → Ending job s input before e
 
 module _ (job : Meaning) (s : Setup) (input : List ℕ) (before : Image) where
   ending : (e : RunFault) → status_of e ≢ 4 → status_of e ≢ 8 → WhyUnfinished job s input before e → Ending job s input before e

@@ -11,7 +11,7 @@ use Rattle.samza_model.specs.Content.{State}
 use Rattle.samza_model.specs.Meaning.{Meaning}
 use Rattle.samza_model.specs.Runs.{runs}
 use Rattle.task_unit.specs.Units.{IsFailed, IsMessage}
-use Rattle.samza_container.specs.Runs.{Does, FailsFrom}
+use Rattle.samza_container.specs.Runs.{Does, FailsMessageFrom}
 use Rattle.samza_container.proofs.Advancing.{message_body, undone}
 use Rattle.samza_container.proofs.Passing.{one_left}
 
@@ -34,11 +34,11 @@ one_why job s e e' state state' why why' same left ended ended' =
 
 module _ (job : Meaning) (s : Setup) (messages : List Record) (begun from : ℕ) (old : State) where
   -- it fails none before it
-  none_before : (f f' : Failure) (a : FailsFrom job s messages begun from old f) (b : FailsFrom job s messages begun from old f') → a.reached < b.reached → ⊥
+  none_before : (f f' : Failure) (a : FailsMessageFrom job s messages begun from old f) (b : FailsMessageFrom job s messages begun from old f') → a.reached < b.reached → ⊥
   none_before f f' a b lt =
       undone job s messages from a.reached old a.left a.failed.message a.does a.failed.is_next b.reached lt b.left f.why a.failed.ended b.does
 
-  same_failure : (f f' : Failure) (a : FailsFrom job s messages begun from old f) (b : FailsFrom job s messages begun from old f') → a.reached ≡ b.reached → f ≡ f'
+  same_failure : (f f' : Failure) (a : FailsMessageFrom job s messages begun from old f) (b : FailsMessageFrom job s messages begun from old f') → a.reached ≡ b.reached → f ≡ f'
   same_failure f f' a b same =
       let does : Does job s messages from b.reached old a.left = subst (λ n. Does job s messages from n old a.left) same a.does in
       let failed : IsFailed job s messages begun b.reached a.left f = subst (λ n. IsFailed job s messages begun n a.left f) same a.failed in
@@ -49,7 +49,7 @@ module _ (job : Meaning) (s : Setup) (messages : List Record) (begun from : ℕ)
       ∙ ap (λ p. record { turn = f'.turn; place = p; why = f.why }) (failed.place_is ∙ sym b.failed.place_is)
       ∙ ap (λ w. record { turn = f'.turn; place = f'.place; why = w }) why
 
-  pub one_failed : (f f' : Failure) → FailsFrom job s messages begun from old f → FailsFrom job s messages begun from old f' → f ≡ f'
+  pub one_failed : (f f' : Failure) → FailsMessageFrom job s messages begun from old f → FailsMessageFrom job s messages begun from old f' → f ≡ f'
   one_failed f f' a b = ⊎_elim
       (λ (lt : a.reached < b.reached). absurd (none_before f f' a b lt))
       (λ (ge : b.reached ≤ a.reached). ⊎_elim

@@ -8,7 +8,7 @@ use Rattle.samza_model.specs.Meaning.{Meaning}
 use Rattle.unit_logs.specs.Standing.{IsSetUp}
 use Rattle.samza_container.specs.declared.faults.RunFault.{RunFault}
 use Rattle.samza_container.specs.declared.faults.RunFault.TheVariants.{Words, NoText, TextLimit, BadEscape, BadKey, NotBuilt, NoPartition, Device, NotOpened, Failed, Limit, NoMemory}
-use Rattle.samza_container.specs.Causes.{IsOfFolder, IsReady, IsSetUpBy, IsTasks, TellsOf, WhyNotReady, WhyStopped, WhyUnfinished}
+use Rattle.samza_container.specs.Causes.{IsOfFolder, IsReady, IsSetUpBy, NamesTask, TellsOf, WhyNotReady, WhyStopped, WhyUnfinished}
 use Rattle.samza_container.specs.Configured.{input_disk, task_disk}
 use Rattle.samza_container.specs.Reported.{IsCause, IsNamedIn, IsOf, Told}
 
@@ -62,7 +62,7 @@ of_folder tells words f task inputs e of why = record {
   named = λ told. named_none f task inputs e of;
 }
 
-told_task : (words : List (List ℕ)) (s : Setup) (task : TaskName) (inputs : List Ssp) (e : RunFault) → IsSetUp s → TellsOf s e → (IsTasks e → IsOf s task inputs) → Told words task inputs e
+told_task : (words : List (List ℕ)) (s : Setup) (task : TaskName) (inputs : List Ssp) (e : RunFault) → IsSetUp s → TellsOf s e → (NamesTask e → IsOf s task inputs) → Told words task inputs e
 told_task words s task inputs (Words place) set_up tells named = absurd tells
 told_task words s task inputs NoText set_up tells named = tt
 told_task words s task inputs TextLimit set_up tells named = tt
@@ -76,7 +76,7 @@ told_task words s task inputs (Failed f) set_up tells named = (s, set_up, named 
 told_task words s task inputs Limit set_up tells named = tt
 told_task words s task inputs NoMemory set_up tells named = tt
 
-named_task : (f : Folder) (s : Setup) (task : TaskName) (inputs : List Ssp) (e : RunFault) → IsSetUpBy f s → (IsTasks e → IsOf s task inputs) → IsNamedIn f task inputs e
+named_task : (f : Folder) (s : Setup) (task : TaskName) (inputs : List Ssp) (e : RunFault) → IsSetUpBy f s → (NamesTask e → IsOf s task inputs) → IsNamedIn f task inputs e
 named_task f s task inputs (Words place) ready named = tt
 named_task f s task inputs NoText ready named = tt
 named_task f s task inputs TextLimit ready named = tt
@@ -105,7 +105,7 @@ stopped words f job s Limit tells is why = inr (job, s, is, why)
 stopped words f job s NoMemory tells is why = inr (job, s, is, why)
 
 -- the folder's task isn't run to its end
-pub of_task : (tells : Type 0) (words : List (List ℕ)) (f : Folder) (job : Meaning) (s : Setup) (task : TaskName) (inputs : List Ssp) (e : RunFault) → IsSetUp s → TellsOf s e → (IsTasks e → IsOf s task inputs)
+pub of_task : (tells : Type 0) (words : List (List ℕ)) (f : Folder) (job : Meaning) (s : Setup) (task : TaskName) (inputs : List Ssp) (e : RunFault) → IsSetUp s → TellsOf s e → (NamesTask e → IsOf s task inputs)
     → (tells → IsReady f job s) → (tells → WhyUnfinished job s (f.disks (input_disk s) 0) (f.disks task_disk) e) → IsCause tells words f task inputs e
 of_task tells words f job s task inputs e set_up of named ready why = record {
   told = told_task words s task inputs e set_up of named;

@@ -13,7 +13,7 @@ use Rattle.unit_logs.specs.Growth.{PassesLimit}
 use Rattle.unit_logs.specs.Held.{unlogged_at}
 use Rattle.unit_logs.specs.Planned.{batch_at}
 use Rattle.task_unit.specs.Units.{UnitValue, IsProcessed, NothingUnlogged}
-use Rattle.samza_container.specs.Runs.{AreChanges, Does, Advances, FillsFrom, FinishesFrom}
+use Rattle.samza_container.specs.Runs.{AreChanges, Does, Advances, FillsFileFrom, FinishesFrom}
 use Rattle.samza_container.proofs.Advancing.{message_body, changes_none, changes_more, does_none, does_more}
 
 pub advances_none : {P D S : Type 0} (job : Meaning) (u : UnitValue P D S) → NothingUnlogged u.setup u.unlogged → Advances job u u
@@ -86,7 +86,7 @@ passes_again s image mark next unlogged unlogged' sent same (inr (inr m)) =
 -- what the job left doesn't pass the limit, so no file does
 pub no_fill : (job : Meaning) (s : Setup) (image : Image) (mark : Option Checkpoint) (messages : List Record) (from : ℕ) (old left : State) (unlogged : List (List Record))
     → Does job s messages from (length messages) old left → AreChanges job s messages from (length messages) old left unlogged → (PassesLimit s image mark (length messages) unlogged left.sent → ⊥)
-    → FillsFrom job s image mark messages from old → ⊥
+    → FillsFileFrom job s image mark messages from old → ⊥
 no_fill job s image mark messages from old left unlogged does changes room fills =
     let same : fills.left ≡ left = one_left job s messages from (length messages) old fills.left left fills.does does in
     let changes' = subst (λ n. AreChanges job s messages from (length messages) old n fills.unlogged) same fills.changes in
@@ -125,7 +125,7 @@ module _ {P D S : Type 0} (meaning : P → Meaning) (reads : D → Image) (first
       (subst (λ s. PassesLimit s (reads now.disk) now.mark now.next now.unlogged now.state.sent) all.given.1 p)))
 
   -- where its files pass the limit, they fill up
-  pub fills_up : PassesLimit now.setup (reads now.disk) now.mark now.next now.unlogged now.state.sent → FillsFrom (meaning first.job) first.setup (reads first.disk) first.mark first.messages first.next first.state
+  pub fills_up : PassesLimit now.setup (reads now.disk) now.mark now.next now.unlogged now.state.sent → FillsFileFrom (meaning first.job) first.setup (reads first.disk) first.mark first.messages first.next first.state
   fills_up p = record { left = now.state; does = does; unlogged = now.unlogged; changes = changes; passes = unpassed p }
 
   unfoldable pub finishes : (after : Image) (images : Image → Type 0) (made : Checkpoint)

@@ -11,7 +11,7 @@ use Rattle.shipped_jobs.specs.Classes.{meaning_of}
 use Rattle.shipped_jobs.specs.WordCount.{word_count}
 use Rattle.samza_container.specs.NotBuilt.{first_not_built, is_other_job}
 use Rattle.samza_container.specs.Causes.{IsReady, WhyNotOne, WhyNotReady}
-use Rattle.samza_container.specs.ConfigText.{Answers, Refuses}
+use Rattle.samza_container.specs.ConfigText.{IsAnswer, IsRefusal}
 use Rattle.samza_container.specs.Configured.{configured, if_one, if_partitioned, input_disk, set_up_by}
 use Rattle.samza_container.specs.SetUp.{setup_of}
 
@@ -20,7 +20,7 @@ pub no_config : (f : Folder) (e : RunFault) → configured f.text ≡ Err e → 
 unfolding set_up_by
 no_config f e is = ap (if_partitioned f.files) is
 
-refused : (f : Folder) (t : Option (List ℕ)) (e : RunFault) → f.text ≡ t → Refuses e (configured t) → WhyNotReady f e
+refused : (f : Folder) (t : Option (List ℕ)) (e : RunFault) → f.text ≡ t → IsRefusal e (configured t) → WhyNotReady f e
 refused f t (Words place) is why = no_config f (Words place) (ap configured is ∙ why)
 refused f t NoText is why = no_config f NoText (ap configured is ∙ why)
 refused f t TextLimit is why = no_config f TextLimit (ap configured is ∙ why)
@@ -40,11 +40,11 @@ text_is None held is = is
 text_is (Some v) held is = is
 
 -- what was answered of the folder's text is of the folder
-pub text_refused : (tells : Type 0) (f : Folder) (t : Option (List ℕ)) (r : Result JobConfig RunFault) → (tells → f.text ≡ t) → Answers r (configured t) → IfErr r (λ e. tells → WhyNotReady f e)
+pub text_refused : (tells : Type 0) (f : Folder) (t : Option (List ℕ)) (r : Result JobConfig RunFault) → (tells → f.text ≡ t) → IsAnswer r (configured t) → IfErr r (λ e. tells → WhyNotReady f e)
 text_refused tells f t (Ok c) is says = tt
 text_refused tells f t (Err e) is says = λ told. refused f t e (is told) says
 
-pub text_said : (tells : Type 0) (held t : Option (List ℕ)) (r : Result JobConfig RunFault) → (tells → held ≡ t) → Answers r (configured t) → IfOk r (λ c. tells → configured held ≡ Ok c)
+pub text_said : (tells : Type 0) (held t : Option (List ℕ)) (r : Result JobConfig RunFault) → (tells → held ≡ t) → IsAnswer r (configured t) → IfOk r (λ c. tells → configured held ≡ Ok c)
 text_said tells held t (Ok c) is says = λ told. ap configured (is told) ∙ says
 text_said tells held t (Err e) is says = tt
 

@@ -13,7 +13,7 @@ use Rattle.unit_logs.specs.Growth.{PassesLimit}
 use Rattle.output_log.specs.Outputs.{cleared_at}
 use Rattle.task_unit.specs.Units.{UnitValue, Counts, NothingUnsent}
 use Rattle.samza_container.specs.declared.reports.TaskReport.{TaskReport}
-use Rattle.samza_container.specs.Reported.{input_row, store_row, sent_by, AreRows, FinishesAs, FinishesWith, Reported, Tells, TellsUnit}
+use Rattle.samza_container.specs.Reported.{input_report, store_report, sent_by, AreRows, FinishesAs, FinishesWith, Reported, ReportsTask, ReportsUnit}
 use Rattle.samza_container.specs.Runs.{Advances}
 use Rattle.samza_container.proofs.Passing.{finishes}
 
@@ -32,15 +32,15 @@ rows_more n row rows x h is = record {
 -- the same values
 pub tells_as : (s s' : Setup) (id id' completed completed' next next' end end' : ℕ) (stores stores' : List Content) (sent sent' : ℕ → ℕ) (r : TaskReport)
     → s ≡ s' → id ≡ id' → completed ≡ completed' → next ≡ next' → end ≡ end' → stores ≡ stores' → ((j : ℕ) → j < length s'.outputs → sent j ≡ sent' j)
-    → Tells s id completed next end stores sent r → Tells s' id' completed' next' end' stores' sent' r
+    → ReportsTask s id completed next end stores sent r → ReportsTask s' id' completed' next' end' stores' sent' r
 tells_as s s' id id' completed completed' next next' end end' stores stores' sent sent' r same a b c d e f tells =
-    let t : Tells s' id completed next end stores sent r = subst (λ x. Tells x id completed next end stores sent r) same tells in
+    let t : ReportsTask s' id completed next end stores sent r = subst (λ x. ReportsTask x id completed next end stores sent r) same tells in
     record {
       task_is = t.task_is;
       checkpoint_is = t.checkpoint_is ∙ a;
       completed_is = t.completed_is ∙ b;
-      inputs_are = t.inputs_are ∙ ap (λ n. input_row s' n end ∷ []) c ∙ ap (λ n. input_row s' next' n ∷ []) d;
-      stores_are = subst (λ x. AreRows (length s'.stores) (store_row s' x) r.stores) e t.stores_are;
+      inputs_are = t.inputs_are ∙ ap (λ n. input_report s' n end ∷ []) c ∙ ap (λ n. input_report s' next' n ∷ []) d;
+      stores_are = subst (λ x. AreRows (length s'.stores) (store_report s' x) r.stores) e t.stores_are;
       outputs_are = record {
         as_many = t.outputs_are.as_many;
         each = λ j x lt. t.outputs_are.each j x lt ∙ ap (λ n. record { name = get_or s'.outputs j []; sent = n }) (f j lt);
@@ -48,7 +48,7 @@ tells_as s s' id id' completed completed' next next' end end' stores stores' sen
     }
 
 -- a unit that did all messages and committed
-module _ {P D S : Type 0} (job : Meaning) (logs after : Image) (images : Image → Type 0) (old new : UnitValue P D S) (done : FinishesAs job logs after images old new) (report : TaskReport) (told : TellsUnit new report) where
+module _ {P D S : Type 0} (job : Meaning) (logs after : Image) (images : Image → Type 0) (old new : UnitValue P D S) (done : FinishesAs job logs after images old new) (report : TaskReport) (told : ReportsUnit new report) where
   pub finishes_with : FinishesWith job old.setup old.messages old.begun old.next old.state logs after images old.mark (cleared_at old.cleared) report
   finishes_with =
       let f = done.finished in

@@ -25,7 +25,7 @@ use Rattle.samza_container.specs.Causes.{TellsOf, WhyNotFinished, WhyUnfinished}
 use Rattle.samza_container.specs.Leaves.{CommitsFrom, FinishLeaves, RunLeaves}
 use Rattle.samza_container.specs.Reported.{FinishesWith, Reported}
 use Rattle.samza_container.proofs.Reporting.{tells_as}
-use Rattle.samza_container.specs.Runs.{fresh, CanRun, FailsFrom, FillsFrom, RanThrough, Start}
+use Rattle.samza_container.specs.Runs.{fresh, CanRun, FailsMessageFrom, FillsFileFrom, RanThrough, Start}
 use Rattle.samza_container.proofs.Timely.{in_time}
 
 -- as many lists as outputs, each of them empty
@@ -93,7 +93,7 @@ passes_other s mark before one other opens stay stay' next unlogged sent =
     passes_there s one other (same_frames s mark before one other opens stay stay') (same_frames s mark before other one opens stay' stay) mark next unlogged sent
 
 fills_other : (job : Meaning) (s : Setup) (mark : Option Checkpoint) (before one other : Image) (opens : StoresOpen before mark (length s.stores)) → LogsStay s mark before one → LogsStay s mark before other
-    → (messages : List Record) (from : ℕ) (old : State) → FillsFrom job s one mark messages from old → FillsFrom job s other mark messages from old
+    → (messages : List Record) (from : ℕ) (old : State) → FillsFileFrom job s one mark messages from old → FillsFileFrom job s other mark messages from old
 fills_other job s mark before one other opens stay stay' messages from old fills = record {
   left = fills.left;
   does = fills.does;
@@ -182,8 +182,8 @@ module _ {P D S : Type 0} (job : Meaning) (s : Setup) (bytes : List ℕ) (image 
   unfinished tells told NoPartition why = absurd why
   unfinished tells told Device why = tt
   unfinished tells told (NotOpened e) why = absurd why
-  unfinished tells told (Failed f) why = record { start = first; fails = from_files (λ t n old. FailsFrom job t u.messages u.begun n old f) why }
-  unfinished tells told Limit why = record { start = first; logs = reads; stay = stay; fills = from_files (λ t n old. FillsFrom job t reads u.mark u.messages n old) (why told) }
+  unfinished tells told (Failed f) why = record { start = first; fails = from_files (λ t n old. FailsMessageFrom job t u.messages u.begun n old f) why }
+  unfinished tells told Limit why = record { start = first; logs = reads; stay = stay; fills = from_files (λ t n old. FillsFileFrom job t reads u.mark u.messages n old) (why told) }
   unfinished tells told NoMemory why = tt
 
 -- what a unit's failure tells on every outside

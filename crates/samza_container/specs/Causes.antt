@@ -19,7 +19,7 @@ use Rattle.task_unit.specs.Units.{TellsTask, WhyNotOpened}
 use Rattle.samza_container.specs.declared.faults.RunFault.{RunFault}
 use Rattle.samza_container.specs.declared.faults.RunFault.TheVariants.{Words, NoText, TextLimit, BadEscape, BadKey, NotBuilt, NoPartition, Device, NotOpened, Failed, Limit, NoMemory}
 use Rattle.samza_container.specs.Configured.{configured, set_up_by, task_disk, input_disk}
-use Rattle.samza_container.specs.Runs.{CanRun, Fails, FailsFrom, Fills, FillsFrom}
+use Rattle.samza_container.specs.Runs.{CanRun, FailsMessage, FailsMessageFrom, FillsFile, FillsFileFrom}
 use Rattle.samza_container.specs.Words.{IsRefusedAt}
 
 -- a host's fault as the run's
@@ -79,8 +79,8 @@ WhyNotReady f e = set_up_by f ≡ Err e
 -- from this state on, a unit's messages aren't all done and committed
 abbrev pub WhyNotFinished : Type 0 → Meaning → Setup → Image → Option Checkpoint → List Record → ℕ → ℕ → State → RunFault → Type 0
 WhyNotFinished tells job s logs mark messages begun next state Device = Unit {0}
-WhyNotFinished tells job s logs mark messages begun next state (Failed f) = FailsFrom job s messages begun next state f
-WhyNotFinished tells job s logs mark messages begun next state Limit = tells → FillsFrom job s logs mark messages next state
+WhyNotFinished tells job s logs mark messages begun next state (Failed f) = FailsMessageFrom job s messages begun next state f
+WhyNotFinished tells job s logs mark messages begun next state Limit = tells → FillsFileFrom job s logs mark messages next state
 WhyNotFinished tells job s logs mark messages begun next state NoMemory = Unit {0}
 WhyNotFinished tells job s logs mark messages begun next state e = ⊥
 
@@ -95,8 +95,8 @@ WhyUnfinished job s input before (NotBuilt key) = ⊥
 WhyUnfinished job s input before NoPartition = ⊥
 WhyUnfinished job s input before Device = Unit {0}
 WhyUnfinished job s input before (NotOpened e) = WhyNotOpened (Unit {0}) (Unit {0}) s before input e
-WhyUnfinished job s input before (Failed f) = Fails job s input before f
-WhyUnfinished job s input before Limit = Fills job s input before
+WhyUnfinished job s input before (Failed f) = FailsMessage job s input before f
+WhyUnfinished job s input before Limit = FillsFile job s input before
 WhyUnfinished job s input before NoMemory = Unit {0}
 
 -- a folder can be run to its task's input's end
@@ -148,7 +148,7 @@ abbrev pub HasEntered : ℕ → Type 0
 HasEntered status = (status ≢ 2) × (status ≢ 4) × (status ≢ 7) × (status ≢ 8)
 
 -- a fault whose line names a task
-abbrev pub IsTasks : RunFault → Type 0
-IsTasks (NotOpened e) = Unit {0}
-IsTasks (Failed f) = Unit {0}
-IsTasks e = ⊥
+abbrev pub NamesTask : RunFault → Type 0
+NamesTask (NotOpened e) = Unit {0}
+NamesTask (Failed f) = Unit {0}
+NamesTask e = ⊥

@@ -23,10 +23,10 @@ unfoldable pub said_by : List ℕ → Result JobConfig RunFault
 said_by text = cond (nat_le (length text) (2 ^ 20)) (of_pairs (props_of text)) (Err TextLimit)
 
 -- what was answered is what is said, but for want of memory, which is free
-abbrev pub Refuses : {A : Type 0} → RunFault → Result A RunFault → Type 0
-Refuses NoMemory said = Unit {0}
-Refuses fault said = said ≡ Err fault
+abbrev pub IsRefusal : {A : Type 0} → RunFault → Result A RunFault → Type 0
+IsRefusal NoMemory said = Unit {0}
+IsRefusal fault said = said ≡ Err fault
 
-abbrev pub Answers : {A : Type 0} → Result A RunFault → Result A RunFault → Type 0
-Answers (Ok x) said = said ≡ Ok x
-Answers (Err fault) said = Refuses fault said
+abbrev pub IsAnswer : {A : Type 0} → Result A RunFault → Result A RunFault → Type 0
+IsAnswer (Ok x) said = said ≡ Ok x
+IsAnswer (Err fault) said = IsRefusal fault said

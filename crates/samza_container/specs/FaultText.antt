@@ -13,7 +13,7 @@ use Rattle.restore_trim.specs.declared.faults.OpenFault.{OpenFault}
 use Rattle.restore_trim.specs.declared.faults.OpenFault.TheVariants.{Device as OpenDevice, Damaged, Shape, Ahead, Limit as OpenLimit, NoMemory as OpenNoMemory}
 use Rattle.samza_container.specs.declared.faults.RunFault.{RunFault}
 use Rattle.samza_container.specs.declared.faults.RunFault.TheVariants.{Words, NoText, TextLimit, BadEscape, BadKey, NotBuilt, NoPartition, Device, NotOpened, Failed, Limit, NoMemory}
-use Rattle.samza_container.specs.Texts.{task_text, partition_text, text_of}
+use Rattle.samza_container.specs.Texts.{task_text, partition_text, input_text}
 
 -- a key of the configuration, and what is wrong with it
 abbrev pub config_text : List ℕ → List ℕ → List ℕ
@@ -37,7 +37,7 @@ why_text (Expired delivered now) = codes "delivered " ++ decimal delivered ++ co
 -- the turn that failed: a message by its offset and its input's stream, or the window
 abbrev pub turn_text : List Ssp → Option (ℕ × ℕ) → List ℕ
 turn_text inputs None = codes "window"
-turn_text inputs (Some place) = codes "offset " ++ decimal place.1 ++ codes " of " ++ text_of topic_of (slice_get inputs place.0)
+turn_text inputs (Some place) = codes "offset " ++ decimal place.1 ++ codes " of " ++ input_text topic_of (slice_get inputs place.0)
 
 -- whether the turn's time ran out
 abbrev pub failure_head : Why → List ℕ
@@ -52,7 +52,7 @@ failure_text task inputs f = failure_head f.why ++ task_text task ++ codes ": " 
 -- the file of an input, or with no input a file of the task
 abbrev pub file_text : TaskName → List Ssp → Option ℕ → ℕ → List ℕ
 file_text task inputs None file = task_text task ++ codes " file " ++ decimal file
-file_text task inputs (Some input) file = text_of partition_text (slice_get inputs input)
+file_text task inputs (Some input) file = input_text partition_text (slice_get inputs input)
 
 -- the file of a task of which more is wanted than is there: a store's changelog, or the checkpoints' file
 abbrev pub file_ahead : Option ℕ → ℕ

@@ -42,9 +42,9 @@ rows c =
     ∷ input_rows c.inputs
 
 -- the key of the first row that holds
-abbrev pub first_of : List Row → Option (List ℕ)
-first_of [] = None
-first_of (r ∷ rs) = cond r.0 (Some r.1) (first_of rs)
+abbrev pub first_asked : List Row → Option (List ℕ)
+first_asked [] = None
+first_asked (r ∷ rs) = cond r.0 (Some r.1) (first_asked rs)
 
 unfoldable pub first_not_built : JobConfig → Option (List ℕ)
-first_not_built c = first_of (rows c)
+first_not_built c = first_asked (rows c)

@@ -29,16 +29,16 @@ use Rattle.samza_container.specs.ReportText.{report_text}
 use Rattle.samza_container.specs.Runs.{FinishesFrom, RanThrough}
 
 -- the setup's one input, how far the task came in it, and its end
-abbrev pub input_row : Setup → ℕ → ℕ → InputReport
-input_row s next end = record { ssp = (input_of s).ssp; next = next; end = end }
+abbrev pub input_report : Setup → ℕ → ℕ → InputReport
+input_report s next end = record { ssp = (input_of s).ssp; next = next; end = end }
 
 -- the i-th store, and how many keys its content has
-abbrev pub store_row : Setup → List Content → ℕ → StoreReport
-store_row s stores i = record { name = (slice_index_or s.stores i (record { name = []; cache = 1; batch = 1 })).name; keys = fin.len (store_at stores i) }
+abbrev pub store_report : Setup → List Content → ℕ → StoreReport
+store_report s stores i = record { name = (slice_index_or s.stores i (record { name = []; cache = 1; batch = 1 })).name; keys = fin.len (store_at stores i) }
 
 -- the j-th output, and how many records it was sent
-abbrev pub output_row : Setup → (ℕ → ℕ) → ℕ → OutputReport
-output_row s sent j = record { name = slice_index_or s.outputs j []; sent = sent j }
+abbrev pub output_report : Setup → (ℕ → ℕ) → ℕ → OutputReport
+output_report s sent j = record { name = slice_index_or s.outputs j []; sent = sent j }
 
 -- so many rows, the i-th of which is this one
 pub record AreRows {A : Type 0} (n : ℕ) (row : ℕ → A) (rows : List A) : Type 0 where
@@ -47,21 +47,21 @@ pub record AreRows {A : Type 0} (n : ℕ) (row : ℕ → A) (rows : List A) : Ty
 
 -- The report tells of a task with this setup: its last checkpoint's number, how many messages it did, how far it came in its
 -- input and where that ends, its stores' contents, and how many records each output was sent.
-pub record Tells (s : Setup) (id completed next end : ℕ) (stores : List Content) (sent : ℕ → ℕ) (report : TaskReport) : Type 0 where
+pub record ReportsTask (s : Setup) (id completed next end : ℕ) (stores : List Content) (sent : ℕ → ℕ) (report : TaskReport) : Type 0 where
   pub task_is : report.task ≡ s.task
   pub checkpoint_is : report.checkpoint ≡ id
   pub completed_is : report.completed ≡ completed
-  pub inputs_are : report.inputs ≡ input_row s next end ∷ []
-  pub stores_are : AreRows (length s.stores) (store_row s stores) report.stores
-  pub outputs_are : AreRows (length s.outputs) (output_row s sent) report.outputs
+  pub inputs_are : report.inputs ≡ input_report s next end ∷ []
+  pub stores_are : AreRows (length s.stores) (store_report s stores) report.stores
+  pub outputs_are : AreRows (length s.outputs) (output_report s sent) report.outputs
 
 -- how many records a unit sent to an output since its opening, committed or not
 abbrev pub sent_by : {P D S : Type 0} → UnitValue P D S → ℕ → ℕ
 sent_by u j = cleared_at u.cleared j + length (sent_at u.state.sent j)
 
 -- the report tells of a unit as it stands
-abbrev pub TellsUnit : {P D S : Type 0} → UnitValue P D S → TaskReport → Type 0
-TellsUnit u report = Tells u.setup (id_of u.mark) (u.next - u.begun) u.next (length u.messages) u.state.stores (sent_by u) report
+abbrev pub ReportsUnit : {P D S : Type 0} → UnitValue P D S → TaskReport → Type 0
+ReportsUnit u report = ReportsTask u.setup (id_of u.mark) (u.next - u.begun) u.next (length u.messages) u.state.stores (sent_by u) report
 
 -- the unit did all messages and committed, and stands with just what the job left
 pub record FinishesAs {P D S : Type 0} (job : Meaning) (logs after : Image) (images : Image → Type 0) (old new : UnitValue P D S) : Type 0 where
@@ -76,13 +76,13 @@ pub record FinishesAs {P D S : Type 0} (job : Meaning) (logs after : Image) (ima
 -- what the job left
 pub record FinishesWith (job : Meaning) (s : Setup) (messages : List Record) (begun from : ℕ) (old : State) (logs after : Image) (images : Image → Type 0) (mark : Option Checkpoint) (sent : ℕ → ℕ) (report : TaskReport) : Type 0 where
   pub finished : FinishesFrom job s messages from old logs after images mark
-  pub tells : Tells s finished.made.id (length messages - begun) (length messages) (length messages) finished.left.stores (λ j. sent j + length (sent_at finished.left.sent j)) report
+  pub tells : ReportsTask s finished.made.id (length messages - begun) (length messages) (length messages) finished.left.stores (λ j. sent j + length (sent_at finished.left.sent j)) report
 
 -- The task was run to its input's end, and the report tells of just that: the checkpoint that was made, how many messages the job did, the
 -- input done to its end, how many keys each store has now, and how many records each output's log grew by.
 pub record Reported (job : Meaning) (s : Setup) (input : List ℕ) (before after : Image) (images : Image → Type 0) (report : TaskReport) : Type 0 where
   pub ran : RanThrough job s input before after images
-  pub tells : Tells s ran.finishes.made.id (length ran.start.messages - ran.start.begun) (length ran.start.messages) (length ran.start.messages)
+  pub tells : ReportsTask s ran.finishes.made.id (length ran.start.messages - ran.start.begun) (length ran.start.messages) (length ran.start.messages)
       ran.finishes.left.stores (λ j. length (sent_at ran.finishes.left.sent j)) report
 
 -- A folder's task was run to its input's end, and this is its report. So it reads now, and so it is in each image that a crash may leave

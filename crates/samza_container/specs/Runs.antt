@@ -58,7 +58,7 @@ pub record Start (s : Setup) (input : List ℕ) (before : Image) : Type 0 where
   pub within : begun ≤ length messages
 
 -- from this state on, the job did all messages, and one of the files that are open would pass 2^40 bytes with what they left to append
-pub record FillsFrom (job : Meaning) (s : Setup) (logs : Image) (mark : Option Checkpoint) (messages : List Record) (from : ℕ) (old : State) : Type 0 where
+pub record FillsFileFrom (job : Meaning) (s : Setup) (logs : Image) (mark : Option Checkpoint) (messages : List Record) (from : ℕ) (old : State) : Type 0 where
   pub left : State
   pub does : Does job s messages from (length messages) old left
   pub unlogged : List (List Record)
@@ -72,13 +72,13 @@ pub record FinishesFrom (job : Meaning) (s : Setup) (messages : List Record) (fr
   pub does : Does job s messages from (length messages) old left
   pub unlogged : List (List Record)
   pub changes : AreChanges job s messages from (length messages) old left unlogged
-  pub room : FillsFrom job s logs mark messages from old → ⊥
+  pub room : FillsFileFrom job s logs mark messages from old → ⊥
   pub made : Checkpoint
   pub now : IsCommitted s logs after mark (length messages) left unlogged made
   pub durable : (c : Image) → images c → IsCommitted s logs c mark (length messages) left unlogged made
 
 -- from this state on, the job did the messages below one that it failed
-pub record FailsFrom (job : Meaning) (s : Setup) (messages : List Record) (begun next : ℕ) (state : State) (f : Failure) : Type 0 where
+pub record FailsMessageFrom (job : Meaning) (s : Setup) (messages : List Record) (begun next : ℕ) (state : State) (f : Failure) : Type 0 where
   pub reached : ℕ
   pub left : State
   pub does : Does job s messages next reached state left
@@ -90,7 +90,7 @@ pub record CanRun (job : Meaning) (s : Setup) (input : List ℕ) (before : Image
   pub start : Start s input before
   pub left : State
   pub does : Does job s start.messages start.begun (length start.messages) (fresh s start.stores) left
-  pub room : (logs : Image) → LogsStay s start.mark before logs → FillsFrom job s logs start.mark start.messages start.begun (fresh s start.stores) → ⊥
+  pub room : (logs : Image) → LogsStay s start.mark before logs → FillsFileFrom job s logs start.mark start.messages start.begun (fresh s start.stores) → ⊥
 
 -- a task was run to its input's end: opened, which left these files, and then done and committed
 pub record RanThrough (job : Meaning) (s : Setup) (input : List ℕ) (before after : Image) (images : Image → Type 0) : Type 0 where
@@ -100,16 +100,16 @@ pub record RanThrough (job : Meaning) (s : Setup) (input : List ℕ) (before aft
   pub finishes : FinishesFrom job s start.messages start.begun (fresh s start.stores) logs after images start.mark
 
 -- the job failed a message
-pub record Fails (job : Meaning) (s : Setup) (input : List ℕ) (before : Image) (f : Failure) : Type 0 where
+pub record FailsMessage (job : Meaning) (s : Setup) (input : List ℕ) (before : Image) (f : Failure) : Type 0 where
   pub start : Start s input before
-  pub fails : FailsFrom job s start.messages start.begun start.begun (fresh s start.stores) f
+  pub fails : FailsMessageFrom job s start.messages start.begun start.begun (fresh s start.stores) f
 
 -- the job did all messages, and one of the files, as the opening left them, would pass 2^40 bytes with what they left to append
-pub record Fills (job : Meaning) (s : Setup) (input : List ℕ) (before : Image) : Type 0 where
+pub record FillsFile (job : Meaning) (s : Setup) (input : List ℕ) (before : Image) : Type 0 where
   pub start : Start s input before
   pub logs : Image
   pub stay : LogsStay s start.mark before logs
-  pub fills : FillsFrom job s logs start.mark start.messages start.begun (fresh s start.stores)
+  pub fills : FillsFileFrom job s logs start.mark start.messages start.begun (fresh s start.stores)
 
 -- the unit did the messages that lie between its places, which left it to log what they changed, and is otherwise as it was
 pub record Advances {P D S : Type 0} (job : Meaning) (old new : UnitValue P D S) : Type 0 where

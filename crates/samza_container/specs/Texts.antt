@@ -13,6 +13,6 @@ abbrev pub partition_text : Ssp → List ℕ
 partition_text ssp = topic_of ssp ++ codes " " ++ decimal ssp.partition
 
 -- with an input, what this says of it; nothing where there is none
-abbrev pub text_of : (Ssp → List ℕ) → Option Ssp → List ℕ
-text_of text None = []
-text_of text (Some ssp) = text ssp
+abbrev pub input_text : (Ssp → List ℕ) → Option Ssp → List ℕ
+input_text text None = []
+input_text text (Some ssp) = text ssp

@@ -2,12 +2,12 @@
 ghost use Rattle.std.specs.Prelude.{◌≡◌, ◌≢◌, None, IfOk, IfErr, option_map};
 ghost use Rattle.job_config.specs.Bounds.{IsBounded};
 ghost use Rattle.samza_container.specs.Causes.{status_of, IsOfFolder};
-ghost use Rattle.samza_container.specs.ConfigText.{Answers, said_by};
+ghost use Rattle.samza_container.specs.ConfigText.{IsAnswer, said_by};
 ghost use Rattle.samza_container.specs.Configured.{configured, if_built};
 ghost use Rattle.samza_container.specs.NotBuilt.{first_not_built};
 
 use crate::RunFault;
-use crate::building::first_not_built;
+use crate::not_built::first_not_built;
 use job_config::{ConfigFault, JobConfig};
 use props_text::{PropsFault, read};
 use std::alloc::Global;
@@ -18,7 +18,7 @@ const TEXT_LIMIT: usize = 1_048_576;
 /// The configuration that a text says. A longer text than may be is refused before it is read.
 #[tactic(auto, unfolding(crate::specs::ConfigText::said_by))]
 pub(crate) fn read_config(alloc: Global, text: &[u8]) -> Result<JobConfig, RunFault>
-    ensures says { Answers result (said_by text.now) }
+    ensures says { IsAnswer result (said_by text.now) }
     ensures bounded { IfOk result IsBounded }
     ensures kind { IfErr result (λ e. IsOfFolder e × (status_of e ≢ 4)) }
 {
@@ -39,7 +39,7 @@ pub(crate) fn read_config(alloc: Global, text: &[u8]) -> Result<JobConfig, RunFa
 
 /// The configuration that a text says, if all that it asks for is built.
 fn built_config(alloc: Global, text: &[u8]) -> Result<JobConfig, RunFault>
-    ensures says { Answers result (if_built (said_by text.now)) }
+    ensures says { IsAnswer result (if_built (said_by text.now)) }
     ensures bounded { IfOk result IsBounded }
     ensures built { IfOk result (λ c. first_not_built c ≡ None) }
     ensures kind { IfErr result (λ e. IsOfFolder e × (status_of e ≢ 4)) }
@@ -57,7 +57,7 @@ fn built_config(alloc: Global, text: &[u8]) -> Result<JobConfig, RunFault>
 
 /// The configuration of a folder with this text, if all that it asks for is built.
 pub(crate) fn folder_config(alloc: Global, text: Option<Vec<u8>>) -> Result<JobConfig, RunFault>
-    ensures says { Answers result (configured (option_map (λ v. v.items) text)) }
+    ensures says { IsAnswer result (configured (option_map (λ v. v.items) text)) }
     ensures bounded { IfOk result IsBounded }
     ensures built { IfOk result (λ c. first_not_built c ≡ None) }
     ensures kind { IfErr result (λ e. IsOfFolder e × (status_of e ≢ 4)) }

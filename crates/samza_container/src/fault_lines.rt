@@ -2,7 +2,7 @@
 ghost use Rattle.std.specs.Prelude.{◌≡◌, ◌∷◌, ◌++◌, [], IfOk, OnOk, codes, decimal, slice_get};
 ghost use Rattle.samza_model.specs.Names.{topic_of};
 ghost use Rattle.samza_container.specs.FaultText.{config_text, what_text, why_text, turn_text, failure_head, failure_text, file_text, file_ahead, open_text, fault_text};
-ghost use Rattle.samza_container.specs.Texts.{partition_text, text_of};
+ghost use Rattle.samza_container.specs.Texts.{partition_text, input_text};
 
 use crate::RunFault;
 use crate::texts::Text;
@@ -151,7 +151,7 @@ fn put_file(
 
 /// Adds an input's partition; nothing where there is no such input.
 fn put_input(text: &mut Text, inputs: &[Ssp], input: u32) -> Result<(), NoMemory>
-    ensures { OnOk result (text.new ≡ text.old ++ text_of partition_text (slice_get inputs.now input)) }
+    ensures { OnOk result (text.new ≡ text.old ++ input_text partition_text (slice_get inputs.now input)) }
 {
     if (input as usize) < inputs.len() {
         text.put_partition(&inputs[input as usize])?;
@@ -161,7 +161,7 @@ fn put_input(text: &mut Text, inputs: &[Ssp], input: u32) -> Result<(), NoMemory
 
 /// Adds an input's stream; nothing where there is no such input.
 fn put_input_topic(text: &mut Text, inputs: &[Ssp], input: u32) -> Result<(), NoMemory>
-    ensures { OnOk result (text.new ≡ text.old ++ text_of topic_of (slice_get inputs.now input)) }
+    ensures { OnOk result (text.new ≡ text.old ++ input_text topic_of (slice_get inputs.now input)) }
 {
     if (input as usize) < inputs.len() {
         text.put_topic(&inputs[input as usize])?;

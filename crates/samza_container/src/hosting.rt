@@ -11,7 +11,7 @@ ghost use Rattle.samza_container.specs.Reported.{Reported};
 use crate::RunFault;
 use crate::faults::of_host;
 use crate::reports::TaskReport;
-use crate::running::work;
+use crate::running::run_on_disk;
 use disk_model::{DiskName, Host};
 use samza_model::{Job, Setup};
 use std::alloc::Global;
@@ -51,7 +51,7 @@ pub(crate) fn run_task<H: Host, J: Job>(
             return Err(of_host(fault));
         }
     };
-    let (done, disk, shelf) = work(alloc, job, setup, disk, shelf);
+    let (done, disk, shelf) = run_on_disk(alloc, job, setup, disk, shelf);
     host.take_shelf(shelf);
     host.take_disk(task, disk);
     done

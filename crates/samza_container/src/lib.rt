@@ -1,12 +1,12 @@
 //! The container: it runs the job of a folder, from the files that come in to the files that go out.
 #![tactic(auto)]
 
-mod building;
 mod config_text;
 mod fault_lines;
 mod faults;
 mod hosting;
 mod laws;
+mod not_built;
 mod preparing;
 mod printing;
 mod reports;

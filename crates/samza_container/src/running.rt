@@ -42,7 +42,9 @@ fn process_all<'j, J: Job, D: Disk, S: Shelf>(
 }
 
 /// Processes a unit's messages up to its input's end, and commits.
-fn do_all<'j, J: Job, D: Disk, S: Shelf>(unit: &mut OneUnit<'j, J, D, S>) -> Result<(), RunFault>
+fn process_and_commit<'j, J: Job, D: Disk, S: Shelf>(
+    unit: &mut OneUnit<'j, J, D, S>,
+) -> Result<(), RunFault>
     requires within { unit.old.next ≤ length unit.old.messages }
     requires logged { NothingUnlogged unit.old.setup unit.old.unlogged }
     requires sound { unit.old.broken ≡ false }
@@ -75,7 +77,7 @@ fn do_all<'j, J: Job, D: Disk, S: Shelf>(unit: &mut OneUnit<'j, J, D, S>) -> Res
 }
 
 /// Processes a unit's messages up to its input's end, commits, and answers what is told of it.
-fn finish<'j, J: Job, D: Disk, S: Shelf>(
+fn run_unit<'j, J: Job, D: Disk, S: Shelf>(
     alloc: Global,
     unit: &mut OneUnit<'j, J, D, S>,
 ) -> Result<TaskReport, RunFault>
@@ -91,7 +93,7 @@ fn finish<'j, J: Job, D: Disk, S: Shelf>(
     ensures name { D.name unit.new.disk ≡ D.name unit.old.disk }
     ensures shelf { unit.new.shelf ≡ unit.old.shelf }
 {
-    match do_all(unit) {
+    match process_and_commit(unit) {
         Ok(()) => match task_report(alloc, unit) {
             Ok(report) => Ok(report),
             Err(_) => Err(RunFault::NoMemory),
@@ -102,7 +104,7 @@ fn finish<'j, J: Job, D: Disk, S: Shelf>(
 
 /// Opens a task, processes its messages up to its input's end, commits, and answers what is told of it. The disk and the shelf
 /// come back.
-pub(crate) fn work<J: Job, D: Disk, S: Shelf>(
+pub(crate) fn run_on_disk<J: Job, D: Disk, S: Shelf>(
     alloc: Global,
     job: &J,
     setup: Setup,
@@ -124,7 +126,7 @@ pub(crate) fn work<J: Job, D: Disk, S: Shelf>(
         Ok(unit) => unit,
         Err((fault, disk, shelf)) => return (Err(RunFault::NotOpened(fault)), disk, shelf),
     };
-    let done = finish(alloc, &mut unit);
+    let done = run_unit(alloc, &mut unit);
     let (disk, shelf) = unit.close();
     (done, disk, shelf)
 }

@@ -5,7 +5,7 @@ ghost use Rattle.disk_model.specs.Handles.{NoneOut, SameAt};
 ghost use Rattle.disk_model.specs.declared.names.DiskName.{DiskName as DiskNameValue};
 ghost use Rattle.shipped_jobs.specs.WordCount.{word_count};
 ghost use Rattle.unit_logs.specs.Standing.{IsSetUp};
-ghost use Rattle.samza_container.specs.Causes.{HasEntered, IsTasks, Runnable, TellsOf, WhyUnfinished};
+ghost use Rattle.samza_container.specs.Causes.{HasEntered, NamesTask, Runnable, TellsOf, WhyUnfinished};
 ghost use Rattle.samza_container.specs.Configured.{input_disk, task_disk};
 ghost use Rattle.samza_container.specs.Endings.{CutsLine, CutsReport, EndsWell, NothingFails, StopsFor, Tried};
 ghost use Rattle.samza_container.specs.Leaves.{FolderLeaves, LeavesAt, RunLeaves};
@@ -35,7 +35,7 @@ fn run_set_up<H: Host>(alloc: Global, setup: Setup, host: &mut H) -> Result<Task
     ensures any_moment { H.tells → LeavesAt H.folder H.images H.images_since H.call_number host.old host.new task_disk (RunLeaves (stops_with result) word_count setup ((H.folder host.old).disks (input_disk setup) 0) ((H.folder host.old).disks task_disk)) }
     ensures why { IfErr result (λ s. H.tells → WhyUnfinished word_count setup ((H.folder host.old).disks (input_disk setup) 0) ((H.folder host.old).disks task_disk) s.fault) }
     ensures told { IfErr result (λ s. TellsOf setup s.fault) }
-    ensures named { IfErr result (λ s. IsTasks s.fault → IsOf setup s.task s.inputs.items) }
+    ensures named { IfErr result (λ s. NamesTask s.fault → IsOf setup s.task s.inputs.items) }
     ensures others { H.tells → (n : DiskNameValue) → n ≢ task_disk → SameAt H.folder H.images H.images_since H.call_number host.old host.new n }
     ensures entered { H.entered host.new ≡ H.entered host.old }
     ensures back { NoneOut (H.disks_out host.new) (H.shelves_out host.new) }

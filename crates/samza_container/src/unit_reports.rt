@@ -1,6 +1,6 @@
 // What the report of a unit tells.
 ghost use Rattle.std.specs.Prelude.{◌≡◌, ◌<◌, ◌∷◌, [], length, IfOk};
-ghost use Rattle.samza_container.specs.Reported.{input_row, store_row, output_row, sent_by, AreRows, TellsUnit};
+ghost use Rattle.samza_container.specs.Reported.{input_report, store_report, output_report, sent_by, AreRows, ReportsUnit};
 
 use crate::reports::{InputReport, OutputReport, StoreReport, TaskReport};
 use disk_model::{Disk, Shelf};
@@ -12,7 +12,7 @@ fn input_reports<'j, J: Job, D: Disk, S: Shelf>(
     alloc: Global,
     unit: &OneUnit<'j, J, D, S>,
 ) -> Result<Vec<InputReport>, NoMemory>
-    ensures { IfOk result (λ r. r.items ≡ input_row unit.now.setup unit.now.next (length unit.now.messages) ∷ []) }
+    ensures { IfOk result (λ r. r.items ≡ input_report unit.now.setup unit.now.next (length unit.now.messages) ∷ []) }
 {
     let lane = unit.lane();
     let mut reports = Vec::new(alloc);
@@ -28,7 +28,7 @@ fn store_reports<'j, J: Job, D: Disk, S: Shelf>(
     alloc: Global,
     unit: &OneUnit<'j, J, D, S>,
 ) -> Result<Vec<StoreReport>, NoMemory>
-    ensures { IfOk result (λ r. AreRows (length unit.now.setup.stores) (store_row unit.now.setup unit.now.state.stores) r.items) }
+    ensures { IfOk result (λ r. AreRows (length unit.now.setup.stores) (store_report unit.now.setup unit.now.state.stores) r.items) }
 {
     let stores = unit.setup().stores.as_slice();
     let mut reports = Vec::new(alloc);
@@ -45,7 +45,7 @@ fn output_reports<'j, J: Job, D: Disk, S: Shelf>(
     alloc: Global,
     unit: &OneUnit<'j, J, D, S>,
 ) -> Result<Vec<OutputReport>, NoMemory>
-    ensures { IfOk result (λ r. AreRows (length unit.now.setup.outputs) (output_row unit.now.setup (sent_by unit.now)) r.items) }
+    ensures { IfOk result (λ r. AreRows (length unit.now.setup.outputs) (output_report unit.now.setup (sent_by unit.now)) r.items) }
 {
     let outputs = unit.setup().outputs.as_slice();
     let mut reports = Vec::new(alloc);
@@ -63,7 +63,7 @@ pub(crate) fn task_report<'j, J: Job, D: Disk, S: Shelf>(
     alloc: Global,
     unit: &OneUnit<'j, J, D, S>,
 ) -> Result<TaskReport, NoMemory>
-    ensures { IfOk result (λ r. TellsUnit unit.now r) }
+    ensures { IfOk result (λ r. ReportsUnit unit.now r) }
 {
     let lane = unit.lane();
     Ok(TaskReport {

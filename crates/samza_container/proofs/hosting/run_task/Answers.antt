@@ -30,12 +30,12 @@ pub returns-clause-why : goal.returns-clause-why
 returns-clause-why g c =
     let h = g.H.Host in
     let job = g.J.Job.meaning (g.J.Job.plain c.args.job.now) in
-    if_err c.work-done.result.0 (λ e why told.
+    if_err c.run_on_disk-done.result.0 (λ e why told.
     let input = c.in-Ok-shelf.ensures.bytes told ∙ ap (λ (i : Image). i c.args.partition) (c.lend.ensures.disks told c.args.input.now c.requires.apart).disk.reads_are in
     subst (λ (bytes : List ℕ). WhyUnfinished job c.args.setup bytes ((h.folder c.args.host.now).disks c.args.task.now) e) input
     (subst (λ (i : Image). WhyUnfinished job c.args.setup (g.H.Shelf.Shelf.bytes c.in-Ok-shelf.shelf) i e) (c.in-Ok.ensures.disk told).reads_are
     (why (g.met.H.Host.disk_tells told) (g.met.H.Host.shelf_tells told))))
-    c.work-done.ensures.why
+    c.run_on_disk-done.ensures.why
 
 pub returns-clause-ran : goal.returns-clause-ran
 returns-clause-ran g c =
@@ -43,10 +43,10 @@ returns-clause-ran g c =
     let disk = g.H.Disk.Disk in
     let job = g.J.Job.meaning (g.J.Job.plain c.args.job.now) in
     let shelf = g.H.Shelf.Shelf.bytes c.in-Ok-shelf.shelf in
-    let back = c.work-done.result.1 in
+    let back = c.run_on_disk-done.result.1 in
     let new = c.take_disk-2.new.self in
     let images = h.images new c.args.task.now in
-    if_ok c.work-done.result.0 (λ report ran told.
+    if_ok c.run_on_disk-done.result.0 (λ report ran told.
     let input = c.in-Ok-shelf.ensures.bytes told ∙ ap (λ (i : Image). i c.args.partition) (c.lend.ensures.disks told c.args.input.now c.requires.apart).disk.reads_are in
     let home = c.take_disk-2.ensures.disk told in
     subst (λ (bytes : List ℕ). Reported job c.args.setup bytes ((h.folder c.args.host.now).disks c.args.task.now) ((h.folder new).disks c.args.task.now) images report) input
@@ -54,7 +54,7 @@ returns-clause-ran g c =
     (subst (λ (i : Image). Reported job c.args.setup shelf (disk.reads c.in-Ok.disk) i images report) (sym home.reads_are)
     (reported_of job c.args.setup shelf (disk.reads c.in-Ok.disk) (disk.reads back) (disk.images back) images (λ image is. (home.images_are image).1 is) report
     (ran (g.met.H.Host.disk_tells told) (g.met.H.Host.shelf_tells told))))))
-    c.work-done.ensures.ran
+    c.run_on_disk-done.ensures.ran
 
 pub returns-in-Err-clause-any_moment : goal.returns-in-Err-clause-any_moment
 returns-in-Err-clause-any_moment g c = λ told. inl (c.in-Err.ensures.kept told)
@@ -90,8 +90,8 @@ returns-clause-any_moment g c = λ told.
     let new = c.take_disk-2.new.self in
     let n = c.args.task.now in
     let lent = c.in-Ok.disk in
-    let back = c.work-done.result.1 in
-    let status = ends_with c.work-done.result.0 in
+    let back = c.run_on_disk-done.result.1 in
+    let status = ends_with c.run_on_disk-done.result.0 in
     let tells = g.met.H.Host.disk_tells told in
     let law = (g.met.H.Disk.Disk g.world.𝓛 g.world.𝓜 g.world.𝓡 ((λ s x. x), (λ x. x), (λ x. x), λ x. x)) in
     let job = g.J.Job.meaning (g.J.Job.plain c.args.job.now) in
@@ -102,7 +102,7 @@ returns-clause-any_moment g c = λ told.
     let run : LeavesOnly disk.call_number disk.images disk.images_since lent back step =
     subst (λ (bytes : List ℕ). LeavesOnly disk.call_number disk.images disk.images_since lent back (RunLeaves status job c.args.setup bytes ((h.folder old).disks n))) input
     (subst (λ (i : Image). LeavesOnly disk.call_number disk.images disk.images_since lent back (RunLeaves status job c.args.setup (g.H.Shelf.Shelf.bytes c.in-Ok-shelf.shelf) i)) out.reads_are
-    (c.work-done.ensures.any_moment tells (g.met.H.Host.shelf_tells told))) in
+    (c.run_on_disk-done.ensures.any_moment tells (g.met.H.Host.shelf_tells told))) in
     inr (record {
       moment = given_back disk.call_number disk.images disk.images_since (λ x. h.call_number x n) (λ x. h.images x n) (λ x. h.images_since x n) ((h.folder old).disks n) (disk.reads lent) (disk.reads back) ((h.folder new).disks n)
           lent back old new step out home run;

@@ -10,7 +10,7 @@ use Rattle.samza_container.specs.Reported.{Reported}
 use Rattle.samza_container.proofs.Leaving.{run_leaves}
 use Rattle.samza_container.proofs.Told.{if_ok, if_err, opened_told}
 use Rattle.samza_container.proofs.Working.{has_reported, left_behind, tells_failed, unfinished}
-use Rattle.samza_container.proofs.running.work.Goals as goal
+use Rattle.samza_container.proofs.running.run_on_disk.Goals as goal
 
 pub returns-in-Err-clause-why : goal.returns-in-Err-clause-why
 returns-in-Err-clause-why g c = λ told shown.
@@ -19,7 +19,7 @@ returns-in-Err-clause-why g c = λ told shown.
 pub returns-clause-told : goal.returns-clause-told
 returns-clause-told g c =
     let u = c.in-Ok.unit in
-    if_err c.finish-done.result (λ fault why. tells_failed g.D.Disk.tells (g.J.Job.meaning u.job) u.setup c.args.setup (g.D.Disk.reads u.disk) u.mark u.messages u.begun u.next u.state fault why) c.finish-done.ensures.why
+    if_err c.run_unit-done.result (λ fault why. tells_failed g.D.Disk.tells (g.J.Job.meaning u.job) u.setup c.args.setup (g.D.Disk.reads u.disk) u.mark u.messages u.begun u.next u.state fault why) c.run_unit-done.ensures.why
 
 pub returns-clause-ran : goal.returns-clause-ran
 returns-clause-ran g c =
@@ -27,13 +27,13 @@ returns-clause-ran g c =
     let u = c.in-Ok.unit in
     let e = c.in-Ok.ensures in
     let meaning = g.J.Job.meaning in
-    let new = c.finish-done.new.unit.disk in
-    if_ok c.finish-done.result (λ report done told shown.
+    let new = c.run_unit-done.new.unit.disk in
+    if_ok c.run_unit-done.result (λ report done told shown.
     subst (λ j. Reported (meaning j) c.args.setup (g.S.Shelf.bytes c.args.shelf) (disk.reads c.args.disk) (disk.reads c.close-disk.result.0) (disk.images c.close-disk.result.0) report) e.given.0
     (subst (λ d. Reported (meaning u.job) c.args.setup (g.S.Shelf.bytes c.args.shelf) (disk.reads c.args.disk) (disk.reads d) (disk.images d) report) (sym c.close-disk.ensures.disk)
     (has_reported (meaning u.job) c.args.setup (g.S.Shelf.bytes c.args.shelf) (disk.reads c.args.disk) (disk.reads u.disk) u e.given.1 (e.restored told) (e.opens told) (e.logs_stay told) (e.messages shown) e.start e.within e.outputs e.unsent
     (disk.reads new) (disk.images new) report e.none_appended (done told))))
-    c.finish-done.ensures.done
+    c.run_unit-done.ensures.done
 
 pub returns-clause-why : goal.returns-clause-why
 returns-clause-why g c =
@@ -41,11 +41,11 @@ returns-clause-why g c =
     let u = c.in-Ok.unit in
     let e = c.in-Ok.ensures in
     let meaning = g.J.Job.meaning in
-    if_err c.finish-done.result (λ fault why told shown.
+    if_err c.run_unit-done.result (λ fault why told shown.
     subst (λ j. WhyUnfinished (meaning j) c.args.setup (g.S.Shelf.bytes c.args.shelf) (disk.reads c.args.disk) fault) e.given.0
     (unfinished (meaning u.job) c.args.setup (g.S.Shelf.bytes c.args.shelf) (disk.reads c.args.disk) (disk.reads u.disk) u e.given.1 (e.restored told) (e.opens told) (e.logs_stay told) (e.messages shown) e.start e.within e.outputs e.unsent
     disk.tells told fault why))
-    c.finish-done.ensures.why
+    c.run_unit-done.ensures.why
 
 pub returns-in-Err-clause-any_moment : goal.returns-in-Err-clause-any_moment
 returns-in-Err-clause-any_moment g c = λ told shown.
@@ -63,16 +63,16 @@ returns-clause-any_moment g c = λ told shown.
     let at = disk.reads u.disk in
     let bytes = g.S.Shelf.bytes c.args.shelf in
     let before = disk.reads c.args.disk in
-    let status = ends_with c.finish-done.result in
+    let status = ends_with c.run_unit-done.result in
     let step = RunLeaves status (meaning u.job) c.args.setup bytes before in
     let law = (g.met.D.Disk g.world.𝓛 g.world.𝓜 g.world.𝓡 ((λ s x. x), (λ x. x), (λ x. x), λ x. x)) in
     let restores : Restores u.setup at u.mark u.state.stores =
     subst (λ (s : Setup). Restores s at u.mark u.state.stores) (sym e.given.1) (e.durable told at (law.read_is_image u.disk told)) in
     subst (λ j. LeavesOnly disk.call_number disk.images disk.images_since c.args.disk c.close-disk.result.0 (RunLeaves status (meaning j) c.args.setup bytes before)) e.given.0
     (subst (λ d. LeavesOnly disk.call_number disk.images disk.images_since c.args.disk d step) (sym c.close-disk.ensures.disk)
-    (run_leaves disk.call_number disk.images disk.images_since c.args.disk u.disk c.finish-done.new.unit.disk c.args.setup
+    (run_leaves disk.call_number disk.images disk.images_since c.args.disk u.disk c.run_unit-done.new.unit.disk c.args.setup
     (FinishLeaves status (meaning u.job) u.setup u.messages u.next u.state at u.mark u.state.stores) step
     (λ k image low is. law.counts_now u.disk k image told low is)
-    (e.any_moment told) (c.finish-done.ensures.any_moment told u.state.stores restores)
+    (e.any_moment told) (c.run_unit-done.ensures.any_moment told u.state.stores restores)
     (left_behind (meaning u.job) c.args.setup bytes before at u e.given.1 (e.restored told) (e.opens told) (e.logs_stay told) (e.messages shown) e.start e.within e.outputs e.unsent status)
     (λ a b opening. inl opening)))

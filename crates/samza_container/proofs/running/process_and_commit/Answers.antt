@@ -2,7 +2,7 @@ use Rattle.std.proofs.Common.{inl, inr, refl, ◌∙◌, ap}
 use Rattle.samza_container.specs.Leaves.{FinishLeaves}
 use Rattle.samza_container.proofs.Leaving.{finish_leaves, untouched}
 use Rattle.samza_container.proofs.Reporting.{finishes_as}
-use Rattle.samza_container.proofs.running.do_all.Goals as goal
+use Rattle.samza_container.proofs.running.process_and_commit.Goals as goal
 
 pub returns-in-Ok-commit-clause-done : goal.returns-in-Ok-commit-clause-done
 returns-in-Ok-commit-clause-done g c = λ told.

@@ -1,7 +1,7 @@
 // What isn't built yet.
 ghost use Rattle.std.specs.Prelude.{◌≡◌, ◌++◌, Some, IfOk, MatchOption, option_copied, codes};
 ghost use Rattle.job_config.specs.Keys.{system_key};
-ghost use Rattle.samza_container.specs.NotBuilt.{is_other_job, is_upcoming, input_rows, first_of, first_not_built};
+ghost use Rattle.samza_container.specs.NotBuilt.{is_other_job, is_upcoming, input_rows, first_asked, first_not_built};
 
 use job_config::{InputConfig, JobConfig};
 use samza_model::{Bin, Class, NoMemory, OffsetDefault};
@@ -40,7 +40,7 @@ fn system_key(alloc: Global, system: &[u8], word: &[u8]) -> Result<Bin, NoMemory
 /// The first key of the job as a whole that asks for what isn't built. Where none does, the input's keys are left.
 #[tactic(auto, unfolding(crate::specs::NotBuilt::first_not_built))]
 fn first_of_job(config: &JobConfig) -> Option<&'static [u8]>
-    ensures { MatchOption result (first_not_built config.now ≡ first_of (input_rows config.now.inputs)) (λ key. first_not_built config.now ≡ Some key.now) }
+    ensures { MatchOption result (first_not_built config.now ≡ first_asked (input_rows config.now.inputs)) (λ key. first_not_built config.now ≡ Some key.now) }
 {
     if is_other_job(&config.class) {
         Some(b"task.class")
@@ -63,7 +63,7 @@ fn first_of_job(config: &JobConfig) -> Option<&'static [u8]>
 
 /// The first key of the input that asks for what isn't built.
 fn first_of_inputs(alloc: Global, inputs: &[InputConfig]) -> Result<Option<Bin>, NoMemory>
-    ensures { IfOk result (λ key. key ≡ first_of (input_rows inputs.now)) }
+    ensures { IfOk result (λ key. key ≡ first_asked (input_rows inputs.now)) }
 {
     match inputs {
         [] => Ok(None),
