@@ -1,4 +1,4 @@
-use Rattle.std.proofs.Common.{arith, ap, length}
+use Rattle.std.proofs.Common.{arith}
 use Rattle.unit_logs.proofs.SetUps.{few_stores}
 use Rattle.samza_container.proofs.unit_reports.store_reports.Goals as goal
 
