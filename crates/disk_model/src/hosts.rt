@@ -10,6 +10,8 @@ ghost use Rattle.disk_model.specs.Handles.{OneMore, AsMany, SameDisk, SameAt};
 use crate::{Disk, DiskName, Shelf};
 use samza_model::{Bin, NoMemory};
 use std::alloc::Global;
+use std::error::Error;
+use std::fmt;
 
 /// Why a host refused.
 #[derive(Clone, Copy, Debug, PartialEq, Eq)]
@@ -18,6 +20,17 @@ pub enum HostFault {
     Device,
     NoMemory,
 }
+
+impl fmt::Display for HostFault {
+    fn fmt<W: fmt::Write>(&self, f: &mut fmt::Formatter<W>) -> fmt::Result {
+        match self {
+            HostFault::Device => write!(f, "device failed"),
+            HostFault::NoMemory => write!(f, "no memory"),
+        }
+    }
+}
+
+impl Error for HostFault {}
 
 impl From<NoMemory> for HostFault {
     ghost use Rattle.std.specs.Prelude.{◌≡◌};
