@@ -5,7 +5,7 @@
 
 Of each layer: its crates, the lines of code, of contracts (`requires`, `ensures` and what belongs to them), of definitions
 (specs/), of proofs (proofs/) and of tests. Blank lines and comments aren't counted. A crate that no layer names is listed under
-"Others". Crates of tests, and a file tests.rt, count as tests alone.
+"Others". Crates of tests, with what they share, and a file tests.rt count as tests alone.
 """
 import argparse
 import os
@@ -23,8 +23,13 @@ LAYERS = [
     ("Container and program", "container_texts samza_container samza_run"),
     ("Plain programs", "slow_model"),
 ]
+SHARED = "test_kit"
 KINDS = ["code", "contracts", "definitions", "proofs", "tests"]
 CLAUSE = re.compile(r"\s*(requires|ensures|ghost)\b")
+
+
+def is_of_tests(crate):
+    return crate.endswith("_tests") or crate == SHARED
 
 
 def lines_of(path, comment):
@@ -46,7 +51,7 @@ def counts_of(crate):
     counts = dict.fromkeys(KINDS, 0)
     for folder, _, files in os.walk(os.path.join(TOP, "crates", crate)):
         part = os.path.relpath(folder, os.path.join(TOP, "crates", crate)).split(os.sep)[0]
-        is_test = crate.endswith("_tests")
+        is_test = is_of_tests(crate)
         for name in files:
             path = os.path.join(folder, name)
             if part == "src" and name.endswith(".rt"):
@@ -63,8 +68,8 @@ def main():
         crates = [line.split(":")[0].split()[0] for line in listed if line.strip() and not line.startswith("#")]
     layers = [(name, [crate for crate in members.split() if crate in crates]) for name, members in LAYERS]
     placed = [crate for _, members in layers for crate in members]
-    layers.append(("Tests", [crate for crate in crates if crate.endswith("_tests")]))
-    layers.append(("Others", [crate for crate in crates if crate not in placed and not crate.endswith("_tests")]))
+    layers.append(("Tests", [crate for crate in crates if is_of_tests(crate)]))
+    layers.append(("Others", [crate for crate in crates if crate not in placed and not is_of_tests(crate)]))
     totals = dict.fromkeys(KINDS, 0)
     print("| Layer | Crates | " + " | ".join(kind.capitalize() for kind in KINDS) + " |")
     print("| --- | --- |" + " ---: |" * len(KINDS))

@@ -4,6 +4,7 @@ use job_config::{ConfigFault, JobConfig, What};
 use props_text::read;
 use samza_model::{Bin, Class, OffsetDefault};
 use std::alloc::Global;
+use std::test::Fail;
 
 /// Every key that may not be left out, with a good value.
 const NEEDED: &str =
@@ -140,6 +141,16 @@ fn makes(alloc: Global, lines: &str, want: Want) -> bool {
     }
 }
 
+/// Fails with the first of these lines that don't make what is wanted.
+fn all_make(alloc: Global, rows: &[(&str, Want)]) -> Result<(), Fail> {
+    for (lines, want) in rows {
+        if !makes(alloc, lines, *want) {
+            return Err(Fail::new(*lines));
+        }
+    }
+    Ok(())
+}
+
 const DEFAULTS: &[Want] = &[
     Want::Counts(1, 0, 1, 1),
     Want::Intervals(None, Some(60_000)),
@@ -160,8 +171,8 @@ fn is_plain(config: &JobConfig) -> bool {
 
 #[test]
 fn gives_the_defaults(rt: HostRuntime) {
-    for want in DEFAULTS {
-        assert!(rt; makes(rt.alloc(), "", *want));
+    for (row, want) in DEFAULTS.iter().enumerate() {
+        assert!(rt; makes(rt.alloc(), "", *want), "row {row}");
     }
     match config_with(rt.alloc(), "") {
         Ok(config) => assert!(rt; is_plain(&config)),
@@ -399,10 +410,8 @@ const NUMBERS: &[(&str, Want)] = &[
 ];
 
 #[test]
-fn takes_numbers_within_their_bounds(rt: HostRuntime) {
-    for (lines, want) in NUMBERS {
-        assert!(rt; makes(rt.alloc(), lines, *want), "{lines}");
-    }
+fn takes_numbers_within_their_bounds(rt: HostRuntime) -> Result<(), Fail> {
+    all_make(rt.alloc(), NUMBERS)
 }
 
 /// Lists, and the keys that nobody reads.
@@ -444,10 +453,8 @@ const LISTS: &[(&str, Want)] = &[
 ];
 
 #[test]
-fn takes_lists_once_and_in_order(rt: HostRuntime) {
-    for (lines, want) in LISTS {
-        assert!(rt; makes(rt.alloc(), lines, *want), "{lines}");
-    }
+fn takes_lists_once_and_in_order(rt: HostRuntime) -> Result<(), Fail> {
+    all_make(rt.alloc(), LISTS)
 }
 
 /// A stream's own keys, its system's, and others that are neither true nor a number in bounds.
@@ -471,8 +478,6 @@ const STREAMS: &[(&str, Want)] = &[
 ];
 
 #[test]
-fn reads_a_stream_before_its_system(rt: HostRuntime) {
-    for (lines, want) in STREAMS {
-        assert!(rt; makes(rt.alloc(), lines, *want), "{lines}");
-    }
+fn reads_a_stream_before_its_system(rt: HostRuntime) -> Result<(), Fail> {
+    all_make(rt.alloc(), STREAMS)
 }

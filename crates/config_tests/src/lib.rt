@@ -5,5 +5,3 @@
 mod configurations;
 #[cfg(test)]
 mod properties;
-#[cfg(test)]
-mod word_counts;

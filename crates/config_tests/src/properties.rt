@@ -2,6 +2,7 @@
 
 use props_text::{Pairs, PropsFault, read, write, write_text, written_comes_back};
 use std::alloc::Global;
+use std::test::Fail;
 
 fn reads_as(alloc: Global, text: &[u8], want: &[u8]) -> bool {
     match read(alloc, text) {
@@ -20,24 +21,24 @@ fn is_malformed_in(alloc: Global, text: &[u8], number: u64) -> bool {
     }
 }
 
-/// The first of these texts that isn't read as its pairs.
-fn first_misread<'a>(alloc: Global, rows: &[(&'a [u8], &[u8])]) -> Option<&'a [u8]> {
+/// Fails with the first of these texts that isn't read as its pairs.
+fn all_read(alloc: Global, rows: &[(&[u8], &[u8])]) -> Result<(), Fail> {
     for (text, want) in rows {
         if !reads_as(alloc, text, want) {
-            return Some(*text);
+            return Err(Fail::new(format_args!("{text:?}")));
         }
     }
-    None
+    Ok(())
 }
 
-/// The first of these texts of which no malformed escape is told, or another line.
-fn first_mistold<'a>(alloc: Global, rows: &[(&'a [u8], u64)]) -> Option<&'a [u8]> {
+/// Fails with the first of these texts of which no malformed escape is told, or another line.
+fn all_malformed(alloc: Global, rows: &[(&[u8], u64)]) -> Result<(), Fail> {
     for (text, number) in rows {
         if !is_malformed_in(alloc, text, *number) {
-            return Some(*text);
+            return Err(Fail::new(format_args!("{text:?}")));
         }
     }
-    None
+    Ok(())
 }
 
 /// Texts, and the pairs that java.util.Properties of OpenJDK 17 reads in them, as `write` writes pairs. They were had by
@@ -134,13 +135,13 @@ const MALFORMED: &[(&[u8], u64)] = &[
 ];
 
 #[test]
-fn reads_the_texts_of_the_jdk(rt: HostRuntime) {
-    assert_eq!(rt; first_misread(rt.alloc(), READ), None);
+fn reads_the_texts_of_the_jdk(rt: HostRuntime) -> Result<(), Fail> {
+    all_read(rt.alloc(), READ)
 }
 
 #[test]
-fn tells_the_line_of_the_first_malformed_escape(rt: HostRuntime) {
-    assert_eq!(rt; first_mistold(rt.alloc(), MALFORMED), None);
+fn tells_the_line_of_the_first_malformed_escape(rt: HostRuntime) -> Result<(), Fail> {
+    all_malformed(rt.alloc(), MALFORMED)
 }
 
 /// Whether the pairs are two, of which one has the key b and none the key c.
@@ -163,11 +164,11 @@ fn shows_the_pairs_by_rising_keys(rt: HostRuntime) {
 }
 
 #[test]
-fn reads_what_java_reads(rt: HostRuntime) {
-    assert_eq!(rt; first_misread(rt.alloc(), READ_BY_JAVA), None);
+fn reads_what_java_reads(rt: HostRuntime) -> Result<(), Fail> {
+    all_read(rt.alloc(), READ_BY_JAVA)
 }
 
 #[test]
-fn refuses_what_java_refuses(rt: HostRuntime) {
-    assert_eq!(rt; first_mistold(rt.alloc(), REFUSED_BY_JAVA), None);
+fn refuses_what_java_refuses(rt: HostRuntime) -> Result<(), Fail> {
+    all_malformed(rt.alloc(), REFUSED_BY_JAVA)
 }

@@ -4,13 +4,13 @@ ghost use Rattle.std.specs.List.{AllByRecursion};
 ghost use Rattle.samza_model.specs.Limits.{IsWithinLimits};
 ghost use Rattle.kv_store.specs.Tracked.{AreWithinLimits};
 
-use crate::records::{Row, records};
 use changelog::{Changelog, frames_of, revert};
 use disk_model::{Disk, DiskName, MemDisk};
 use kv_store::Table;
 use samza_model::{Bin, NoMemory, Record};
 use std::alloc::Global;
 use std::test::Fail;
+use test_kit::{Row, are_records, has_pairs, is_text, records};
 use topic_log::LogFault;
 
 /// Writes the records in frames of three, and answers how many device calls that took.
@@ -71,25 +71,6 @@ fn lengths<D: Disk>(alloc: Global, disk: &mut D) -> Result<(u64, u64), LogFault>
     Ok((count, size))
 }
 
-fn is_text(found: Option<&Bin>, want: Option<&str>) -> bool {
-    match (found, want) {
-        (Some(bin), Some(text)) => bin.bytes() == text.as_bytes(),
-        (None, None) => true,
-        _ => false,
-    }
-}
-
-/// Whether the table has just these pairs.
-fn has(alloc: Global, table: &Table, want: &[(&str, &str)]) -> Result<bool, NoMemory> {
-    for (key, value) in want {
-        let key = Bin::of(alloc, key.as_bytes())?;
-        if !is_text(table.get(&key), Some(*value)) {
-            return Ok(false);
-        }
-    }
-    Ok(table.len() == want.len() as u64)
-}
-
 fn are_keys(keys: &[Bin], want: &[&str]) -> bool {
     keys.len() == want.len()
         && keys
@@ -107,7 +88,7 @@ fn folds_to<D: Disk>(
     keys: &[&str],
 ) -> Result<bool, LogFault> {
     let (table, touched) = folded(alloc, disk, count)?;
-    Ok(has(alloc, &table, map)? && are_keys(touched.as_slice(), keys))
+    Ok(has_pairs(alloc, &table, map)? && are_keys(touched.as_slice(), keys))
 }
 
 fn disk(alloc: Global) -> Result<MemDisk, NoMemory> {
@@ -137,26 +118,21 @@ const FOLDED: &[Folded] = &[
     (5, &[("b", "3"), ("c", "2")], &[]),
 ];
 
-/// The first of these counts at which the log folds to something else.
-fn first_other<D: Disk>(
-    alloc: Global,
-    disk: &mut D,
-    rows: &[Folded],
-) -> Result<Option<u64>, LogFault> {
+/// Fails with the first of these counts at which the log folds to something else.
+fn all_fold<D: Disk>(alloc: Global, disk: &mut D, rows: &[Folded]) -> Result<(), Fail> {
     for (count, map, keys) in rows {
         if !folds_to(alloc, disk, *count, map, keys)? {
-            return Ok(Some(*count));
+            return Err(Fail::new(format_args!("at {count}")));
         }
     }
-    Ok(None)
+    Ok(())
 }
 
 #[test]
 fn a_log_of_two_frames_folds_at_each_count(rt: HostRuntime) -> Result<(), Fail> {
     let (mut disk, _) = disk_of_five(rt.alloc())?;
     assert_eq!(rt; lengths(rt.alloc(), &mut disk)?, (5, 68));
-    assert_eq!(rt; first_other(rt.alloc(), &mut disk, FOLDED)?, None);
-    Ok(())
+    all_fold(rt.alloc(), &mut disk, FOLDED)
 }
 
 #[test]
@@ -164,16 +140,6 @@ fn a_new_log_has_a_gate_alone(rt: HostRuntime) -> Result<(), Fail> {
     let mut disk = disk(rt.alloc())?;
     assert_eq!(rt; lengths(rt.alloc(), &mut disk)?, (0, 1));
     Ok(())
-}
-
-/// Whether these are the records, in order.
-fn are_records(records: &[Record], want: &[(&str, Option<&str>)]) -> bool {
-    for (record, (key, value)) in records.iter().zip(want) {
-        if !is_text(Some(&record.key), Some(*key)) || !is_text(record.value.as_ref(), *value) {
-            return false;
-        }
-    }
-    records.len() == want.len()
 }
 
 #[test]

@@ -1,9 +1,9 @@
 // A checkpoint's record, both ways, and records that are none.
-use crate::records::list;
 use checkpoint_log::{CheckpointFault, decode_checkpoint, encode_checkpoint, is_well_formed};
-use samza_model::{Bin, Checkpoint, InputMark, NoMemory, Plain, Record, StoreMark};
+use samza_model::{Bin, NoMemory, Plain, Record};
 use std::alloc::Global;
 use std::test::Fail;
+use test_kit::checkpoint;
 
 const KEY: [u8; 8] = [0, 0, 0, 0, 0, 0, 0, 1];
 
@@ -18,38 +18,11 @@ const VALUE: [u8; 57] = [
     0x01, 0x0C, 0x6B, 0x61, 0x66, 0x6B, 0x61, 0x2E, 0x74, 0x6F, 0x74, 0x61, 0x6C, 0x73, // kafka.totals
 ];
 
-fn record(alloc: Global, key: &[u8], value: &[u8]) -> Result<Record, NoMemory> {
+/// The record of this key and value.
+fn record_of(alloc: Global, key: &[u8], value: &[u8]) -> Result<Record, NoMemory> {
     Ok(Record {
         key: Bin::of(alloc, key)?,
         value: Some(Bin::of(alloc, value)?),
-    })
-}
-
-fn input(alloc: Global) -> Result<InputMark, NoMemory> {
-    Ok(InputMark {
-        stream: Bin::of(alloc, b"kafka.lines")?,
-        partition: 0,
-        next: 2,
-    })
-}
-
-fn store(alloc: Global) -> Result<StoreMark, NoMemory> {
-    Ok(StoreMark {
-        name: Bin::of(alloc, b"counts")?,
-        count: 2,
-    })
-}
-
-/// The checkpoint of that record.
-fn checkpoint(alloc: Global) -> Result<Checkpoint, NoMemory> {
-    let inputs = list(alloc, input(alloc)?)?;
-    let stores = list(alloc, store(alloc)?)?;
-    let outputs = list(alloc, Bin::of(alloc, b"kafka.totals")?)?;
-    Ok(Checkpoint {
-        id: 1,
-        inputs,
-        stores,
-        outputs,
     })
 }
 
@@ -57,14 +30,14 @@ fn checkpoint(alloc: Global) -> Result<Checkpoint, NoMemory> {
 fn a_checkpoint_of_each_list_is_encoded_so(rt: HostRuntime) -> Result<(), Fail> {
     let c = checkpoint(rt.alloc())?;
     assert!(rt; is_well_formed(&c));
-    let spelled = record(rt.alloc(), &KEY, &VALUE)?;
+    let spelled = record_of(rt.alloc(), &KEY, &VALUE)?;
     assert!(rt; encode_checkpoint(rt.alloc(), &c)? == spelled);
     Ok(())
 }
 
 #[test]
 fn its_record_is_decoded_to_it(rt: HostRuntime) -> Result<(), Fail> {
-    let spelled = record(rt.alloc(), &KEY, &VALUE)?;
+    let spelled = record_of(rt.alloc(), &KEY, &VALUE)?;
     let decoded = decode_checkpoint(rt.alloc(), &spelled)?;
     assert!(rt; decoded.same(&checkpoint(rt.alloc())?));
     Ok(())
@@ -72,7 +45,7 @@ fn its_record_is_decoded_to_it(rt: HostRuntime) -> Result<(), Fail> {
 
 /// Whether the record of this key and value is no checkpoint's.
 fn is_bad(alloc: Global, key: &[u8], value: &[u8]) -> Result<bool, NoMemory> {
-    let spelled = record(alloc, key, value)?;
+    let spelled = record_of(alloc, key, value)?;
     Ok(matches!(
         decode_checkpoint(alloc, &spelled),
         Err(CheckpointFault::Bad)
@@ -91,7 +64,7 @@ fn other_records_are_bad(rt: HostRuntime) -> Result<(), Fail> {
         (KEY.as_slice(), format.as_slice()),
         (KEY.as_slice(), dotless.as_slice()),
     ] {
-        assert!(rt; is_bad(rt.alloc(), key, value)?);
+        assert!(rt; is_bad(rt.alloc(), key, value)?, "{key:?} {value:?}");
     }
     Ok(())
 }

@@ -1,8 +1,8 @@
-use crate::records::{records, set};
 use log_frame::{BadAt, Checked, Frame, FrameFault, check, decode, encode, frame_len, frames_of};
 use samza_model::NoMemory;
 use std::alloc::Global;
 use std::test::Fail;
+use test_kit::{records, set};
 
 /// The frame of the record (a, 1).
 const ONE: [u8; 18] = [0, 0, 0, 10, 0, 0, 0, 1, 0, 0, 0, 1, 0x61, 0, 0, 0, 1, 0x31];
@@ -40,7 +40,10 @@ fn bytes_that_are_no_frame_are_bad_at_these_places(rt: HostRuntime) {
         (&ONE[..17], 0),
     ] {
         let fault = decode(rt.alloc(), bytes).err();
-        assert!(rt; check(bytes) == Err(BadAt { at }) && fault == Some(FrameFault::Bad { at }));
+        assert!(rt;
+            check(bytes) == Err(BadAt { at }) && fault == Some(FrameFault::Bad { at }),
+            "at {at}"
+        );
     }
 }
 

@@ -12,8 +12,6 @@ mod logs;
 #[cfg(test)]
 mod outputs;
 #[cfg(test)]
-mod records;
-#[cfg(test)]
 mod restores;
 #[cfg(test)]
 mod tables;

@@ -7,7 +7,6 @@ ghost use Rattle.samza_model.specs.Limits.{IsFrameable, IsWithinLimits};
 ghost use Rattle.topic_log.specs.Batches.{HasPlace};
 ghost use Rattle.topic_log.specs.Opened.{is_broken, IsOpen};
 
-use crate::records::{Row, record, records, removal, set};
 use checkpoint_log::last;
 use disk_model::{Disk, DiskName, Host, MemDisk, MemHost};
 use log_frame::{Frame, frames_of};
@@ -15,6 +14,7 @@ use samza_model::{Bin, Items, NoMemory, Plain, Record};
 use slow_model::spell_log;
 use std::alloc::Global;
 use std::test::Fail;
+use test_kit::{Row, record, records, removal, set};
 use topic_log::{Log, LogFault, Place, produce_one, read_shelf};
 
 /// A disk of one empty file, whose calls behind the first so many fail.
@@ -46,7 +46,7 @@ fn an_opened_log_of_no_frame_leaves_one_closed_gate(rt: HostRuntime) -> Result<(
         ([0x4F].as_slice(), [0x43].as_slice()),
         ([0xAB, 0, 0, 1].as_slice(), [0xAB].as_slice()),
     ] {
-        assert!(rt; opens_empty(rt.alloc(), bytes, left)?);
+        assert!(rt; opens_empty(rt.alloc(), bytes, left)?, "{bytes:?}");
     }
     Ok(())
 }
@@ -104,15 +104,20 @@ fn produced(
 }
 
 /// The file of the one record (a, 1), and a frame of b without a value behind it.
-const PRODUCED: &[u8] =
-    b"O\x00\x00\x00\x0a\x00\x00\x00\x01\x00\x00\x00\x01a\x00\x00\x00\x011O\x00\x00\x00\x09\x00\x00\x00\x01\x00\x00\x00\x01b\xff\xff\xff\xffC";
+const PRODUCED: [u8; 38] = [
+    0x4F, 0, 0, 0, 0x0A, 0, 0, 0, 1, // gate, bytes of the records, records
+    0, 0, 0, 1, 0x61, 0, 0, 0, 1, 0x31, // a, 1
+    0x4F, 0, 0, 0, 0x09, 0, 0, 0, 1, // gate, bytes of the records, records
+    0, 0, 0, 1, 0x62, 0xFF, 0xFF, 0xFF, 0xFF, // b, no value
+    0x43, // gate
+];
 
 #[test]
 fn a_record_is_produced_behind_those_of_the_file(rt: HostRuntime) -> Result<(), Fail> {
     let (offset, left) = produced(rt.alloc(), &[], (b"a", Some(b"1")))?;
     assert_eq!(rt; (offset, left.as_slice()), (Ok(0), counted(1).as_slice()));
     let (offset, left) = produced(rt.alloc(), &counted(1), (b"b", None))?;
-    assert_eq!(rt; (offset, left.as_slice()), (Ok(1), PRODUCED));
+    assert_eq!(rt; (offset, left.as_slice()), (Ok(1), PRODUCED.as_slice()));
     Ok(())
 }
 

@@ -1,11 +1,11 @@
 // What two outputs make of calls, as bytes of frames that were spelled by hand.
 ghost use Rattle.std.specs.Prelude.{◌<◌, length};
 
-use crate::records::{removal, set};
 use output_log::Outputs;
 use samza_model::NoMemory;
 use std::alloc::Global;
 use std::test::Fail;
+use test_kit::{removal, set};
 
 /// A call on outputs, with the output's number.
 #[derive(Clone, Copy)]
@@ -85,10 +85,16 @@ fn has(alloc: Global, calls: &[Call], bytes: &[u8], sent: u64) -> Result<bool, N
 }
 
 /// The frames of (a, 1), and of (a, 1) and b without a value.
-const ONE: &[u8] = b"\x00\x00\x00\x0a\x00\x00\x00\x01\x00\x00\x00\x01a\x00\x00\x00\x011";
+const ONE: &[u8] = &[
+    0, 0, 0, 0x0A, 0, 0, 0, 1, // bytes of the records, records
+    0, 0, 0, 1, 0x61, 0, 0, 0, 1, 0x31, // a, 1
+];
 
-const BOTH: &[u8] =
-    b"\x00\x00\x00\x13\x00\x00\x00\x02\x00\x00\x00\x01a\x00\x00\x00\x011\x00\x00\x00\x01b\xff\xff\xff\xff";
+const BOTH: &[u8] = &[
+    0, 0, 0, 0x13, 0, 0, 0, 2, // bytes of the records, records
+    0, 0, 0, 1, 0x61, 0, 0, 0, 1, 0x31, // a, 1
+    0, 0, 0, 1, 0x62, 0xFF, 0xFF, 0xFF, 0xFF, // b, no value
+];
 
 /// Calls, with the bytes of the first output's frames behind them, and how many records it was sent.
 const CALLS: &[(&[Call], &[u8], u64)] = &[

@@ -1,43 +1,18 @@
 // A task with one store and one output, restored from a disk in memory. What is wanted was found by hand.
-ghost use Rattle.std.specs.Prelude.{◌≡◌, length, IfOk};
+ghost use Rattle.std.specs.Prelude.{IfOk};
 ghost use Rattle.std.specs.List.{AllByRecursion};
 ghost use Rattle.samza_model.specs.Limits.{IsWithinLimits};
 
-use crate::records::{list, records};
 use changelog::frames_of;
 use checkpoint_log::{encode_checkpoint, is_well_formed};
 use disk_model::{Disk, DiskName, MemDisk};
-use kv_store::Table;
 use restore_trim::{OpenFault, Restored, restore, topic_name};
-use samza_model::{
-    Bin, Checkpoint, Items, NoMemory, Record, Setup, Ssp, StoreMark, StoreSetup, TaskName,
-};
+use samza_model::{Bin, Checkpoint, Items, NoMemory, Record, Ssp, StoreMark};
 use std::alloc::Global;
 use std::slice;
 use std::test::Fail;
+use test_kit::{has_pairs, list, records, setup};
 use topic_log::{Log, LogFault};
-
-fn setup(alloc: Global) -> Result<Setup, NoMemory>
-    ensures { IfOk result (λ setup. (length setup.stores ≡ 1) × (length setup.outputs ≡ 1)) }
-{
-    let store = StoreSetup {
-        name: Bin::of(alloc, b"counts")?,
-        cache: 16,
-        batch: 16,
-    };
-    Ok(Setup {
-        task: TaskName(0),
-        inputs: Items::from_vec(Vec::new(alloc)),
-        stores: list(alloc, store)?,
-        outputs: list(alloc, Bin::of(alloc, b"kafka.totals")?)?,
-        concurrency: 1,
-        span: 1,
-        async_commit: false,
-        window_ms: None,
-        commit_ms: None,
-        timeout_ms: None,
-    })
-}
 
 /// Appends the records to a file's log as one frame.
 fn append<D: Disk>(
@@ -91,17 +66,6 @@ fn change_again<D: Disk>(alloc: Global, disk: &mut D) -> Result<(), LogFault> {
     append(alloc, disk, 1, changes.as_slice())
 }
 
-/// Whether the table has just (a, 1) and (b, 1).
-fn has_both(alloc: Global, table: &Table) -> Result<bool, NoMemory> {
-    for key in [b"a", b"b"] {
-        match table.get(&Bin::of(alloc, key)?) {
-            Some(found) if found.bytes() == b"1".as_slice() => {}
-            _ => return Ok(false),
-        }
-    }
-    Ok(table.len() == 2)
-}
-
 fn disk(alloc: Global) -> Result<MemDisk, NoMemory> {
     MemDisk::new(
         alloc,
@@ -123,11 +87,14 @@ fn disk_with_tail(alloc: Global) -> Result<MemDisk, Fail> {
     Ok(disk)
 }
 
+/// The store at the checkpoint.
+const BOTH: &[(&str, &str)] = &[("a", "1"), ("b", "1")];
+
 /// How many records the one changelog has; None where there is no checkpoint, or the store is another than that of the
 /// checkpoint.
 fn length_of(alloc: Global, restored: &Restored) -> Result<Option<u64>, NoMemory> {
     match (restored.tables.as_slice(), restored.changelogs.as_slice()) {
-        ([table], [log]) if restored.checkpoint.is_some() && has_both(alloc, table)? => {
+        ([table], [log]) if restored.checkpoint.is_some() && has_pairs(alloc, table, BOTH)? => {
             Ok(Some(log.len()))
         }
         _ => Ok(None),

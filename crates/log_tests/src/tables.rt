@@ -1,35 +1,22 @@
 // Each call once, on small tables.
-ghost use Rattle.std.specs.Prelude.{◌≡◌, length, IfOk};
+ghost use Rattle.std.specs.Prelude.{◌≡◌, IfOk};
 ghost use Rattle.kv_store.specs.Tracked.{IsDirty, undone};
 
 use kv_store::{Table, TrackedTable, Undo};
-use samza_model::{Bin, NoMemory, Record};
+use samza_model::{Bin, NoMemory};
 use std::alloc::Global;
 use std::test::Fail;
-
-fn bin(alloc: Global, text: &[u8; 1]) -> Result<Bin, NoMemory>
-    ensures { IfOk result (λ b. length b ≡ 1) }
-{
-    Bin::of(alloc, text)
-}
-
-fn is_text(found: Option<&Bin>, want: Option<&[u8; 1]>) -> bool {
-    match (found, want) {
-        (Some(bin), Some(text)) => bin.bytes() == text.as_slice(),
-        (None, None) => true,
-        _ => false,
-    }
-}
+use test_kit::{are_records, bin, is_text};
 
 /// A table of (a, 2) and (b, 3), and of what was put and taken away again.
 fn two_pairs(alloc: Global) -> Result<Table, NoMemory> {
     let mut table = Table::new(alloc);
-    for (key, value) in [(b"b", b"1"), (b"a", b"2"), (b"b", b"3"), (b"d", b"4")] {
+    for (key, value) in [("b", "1"), ("a", "2"), ("b", "3"), ("d", "4")] {
         let key = bin(alloc, key)?;
         let value = bin(alloc, value)?;
         table.put(key, value)?;
     }
-    let key = bin(alloc, b"d")?;
+    let key = bin(alloc, "d")?;
     table.delete(&key);
     Ok(table)
 }
@@ -38,15 +25,18 @@ fn two_pairs(alloc: Global) -> Result<Table, NoMemory> {
 fn a_table_answers_as_a_sorted_map(rt: HostRuntime) -> Result<(), Fail> {
     let table = two_pairs(rt.alloc())?;
     assert!(rt; table.len() == 2 && !table.is_empty());
-    for (key, value, next) in [
-        (b"a", Some(b"2"), Some(b"a")),
-        (b"b", Some(b"3"), Some(b"b")),
-        (b"c", None, None),
-        (b"0", None, Some(b"a")),
+    for (name, value, next) in [
+        ("a", Some("2"), Some("a")),
+        ("b", Some("3"), Some("b")),
+        ("c", None, None),
+        ("0", None, Some("a")),
     ] {
-        let key = bin(rt.alloc(), key)?;
+        let key = bin(rt.alloc(), name)?;
         let found = table.next(&key).map(|pair| pair.0);
-        assert!(rt; is_text(table.get(&key), value) && is_text(found, next));
+        assert!(rt;
+            is_text(table.get(&key), value) && is_text(found, next),
+            "at {name}"
+        );
     }
     Ok(())
 }
@@ -69,8 +59,8 @@ fn put(
     ensures can_undo { IfOk result (λ undo. IsDirty table.new undo.key) }
     ensures undoes { IfOk result (λ undo. undone table.new undo ≡ table.old) }
 {
-    let key = bin(alloc, key)?;
-    let value = bin(alloc, value)?;
+    let key = Bin::of(alloc, key)?;
+    let value = Bin::of(alloc, value)?;
     table.change(alloc, key, Some(value))
 }
 
@@ -79,7 +69,7 @@ fn remove(alloc: Global, table: &mut TrackedTable, key: &[u8; 1]) -> Result<Undo
     ensures can_undo { IfOk result (λ undo. IsDirty table.new undo.key) }
     ensures undoes { IfOk result (λ undo. undone table.new undo ≡ table.old) }
 {
-    let key = bin(alloc, key)?;
+    let key = Bin::of(alloc, key)?;
     table.change(alloc, key, None)
 }
 
@@ -90,24 +80,13 @@ fn change_both(alloc: Global, table: &mut TrackedTable) -> Result<(), NoMemory> 
     Ok(())
 }
 
-/// Whether the records are those of these changes.
-fn are_both(records: &[Record]) -> bool {
-    match records {
-        [first, second] => {
-            is_text(Some(&first.key), Some(b"a"))
-                && first.value.is_none()
-                && is_text(second.value.as_ref(), Some(b"2"))
-        }
-        _ => false,
-    }
-}
-
 #[test]
 fn changes_are_logged_once(rt: HostRuntime) -> Result<(), Fail> {
     let mut table = one_logged(rt.alloc())?;
     change_both(rt.alloc(), &mut table)?;
     assert!(rt; table.len() == 1 && table.dirty() == 2);
-    assert!(rt; are_both(table.unlogged(rt.alloc())?.as_slice()));
+    let unlogged = table.unlogged(rt.alloc())?;
+    assert!(rt; are_records(unlogged.as_slice(), &[("a", None), ("b", Some("2"))]));
     Ok(())
 }
 
@@ -127,11 +106,11 @@ fn change_and_take_back(
 
 #[test]
 fn changes_are_taken_back(rt: HostRuntime) -> Result<(), Fail> {
-    let key = bin(rt.alloc(), b"a")?;
+    let key = bin(rt.alloc(), "a")?;
     let mut table = one_logged(rt.alloc())?;
     assert!(rt; change_and_take_back(rt.alloc(), &mut table, &key)?);
     assert!(rt; table.len() == 1 && table.dirty() == 0);
-    assert!(rt; is_text(table.get(&key), Some(b"1")));
+    assert!(rt; is_text(table.get(&key), Some("1")));
     Ok(())
 }
 

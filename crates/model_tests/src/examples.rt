@@ -5,45 +5,19 @@ ghost use Rattle.samza_model.specs.Limits.{IsFrameable};
 
 use checkpoint_log::is_well_formed;
 use kv_store::Table;
-use samza_model::{
-    Act, Answer, Bin, Checkpoint, Envelope, InputMark, Items, NoMemory, OffsetDefault, Record,
-    Setup, Ssp, StoreMark, StoreSetup, TaskName, Why,
-};
+use samza_model::{Act, Answer, Bin, Envelope, Items, NoMemory, Record, Why};
 use shipped_jobs::WordCount;
 use slow_model::{PlainState, fold_all, replay, run_one, spell_checkpoint, spell_log};
 use std::alloc::Global;
 use std::test::Fail;
-
-fn bin(alloc: Global, text: &str) -> Result<Bin, NoMemory> {
-    Bin::of(alloc, text.as_bytes())
-}
-
-fn list<T: Drop>(alloc: Global, item: T) -> Result<Items<T>, NoMemory> {
-    let mut items = Vec::new(alloc);
-    items.push(item)?;
-    Ok(Items::from_vec(items))
-}
-
-fn pair(alloc: Global, key: &str, value: Option<&str>) -> Result<Record, NoMemory> {
-    let value = match value {
-        Some(value) => Some(bin(alloc, value)?),
-        None => None,
-    };
-    Ok(Record {
-        key: bin(alloc, key)?,
-        value,
-    })
-}
+use test_kit::{Row, are_records, bin, checkpoint, has_pairs, message, records, set, setup};
 
 /// The frames of one frame, of the one record (a, 1).
 fn one_frame(alloc: Global) -> Result<Vec<Items<Record>>, NoMemory>
     ensures { IfOk result (λ frames. AllByRecursion IsFrameable frames.items) }
 {
     let mut records = Vec::new(alloc);
-    records.push(Record {
-        key: Bin::of(alloc, b"a")?,
-        value: Some(Bin::of(alloc, b"1")?),
-    })?;
+    records.push(set(alloc, b"a", b"1")?)?;
     let mut frames = Vec::new(alloc);
     frames.push(Items::from_vec(records))?;
     Ok(frames)
@@ -70,25 +44,7 @@ fn a_log_of_no_frame_is_a_closed_gate(rt: HostRuntime) -> Result<(), Fail> {
     Ok(())
 }
 
-fn checkpoint(alloc: Global) -> Result<Checkpoint, NoMemory> {
-    let input = InputMark {
-        stream: bin(alloc, "kafka.lines")?,
-        partition: 0,
-        next: 2,
-    };
-    let store = StoreMark {
-        name: bin(alloc, "counts")?,
-        count: 2,
-    };
-    Ok(Checkpoint {
-        id: 1,
-        inputs: list(alloc, input)?,
-        stores: list(alloc, store)?,
-        outputs: list(alloc, bin(alloc, "kafka.totals")?)?,
-    })
-}
-
-/// The file of that checkpoint, where it is well formed.
+/// The file of the one checkpoint, where it is well formed.
 fn spelled(alloc: Global) -> Result<Bin, Fail> {
     let c = checkpoint(alloc)?;
     if is_well_formed(&c) {
@@ -118,70 +74,26 @@ fn a_file_of_one_checkpoint_has_these_83_bytes(rt: HostRuntime) -> Result<(), Fa
     Ok(())
 }
 
-fn is_pair(record: &Record, want: (&str, &str)) -> bool {
-    match &record.value {
-        Some(value) => {
-            record.key.bytes() == want.0.as_bytes() && value.bytes() == want.1.as_bytes()
-        }
-        None => false,
-    }
-}
+/// Five changes.
+const FIVE: &[Row] = &[
+    (b"a", Some(b"1")),
+    (b"b", Some(b"1")),
+    (b"a", None),
+    (b"c", Some(b"2")),
+    (b"b", Some(b"3")),
+];
 
-fn are_pairs(records: &[Record], want: &[(&str, &str)]) -> bool {
-    records.len() == want.len() && records.iter().zip(want).all(|(r, want)| is_pair(r, *want))
-}
-
-fn has(alloc: Global, table: &Table, want: &[(&str, &str)]) -> Result<bool, NoMemory> {
-    for (key, value) in want {
-        match table.get(&bin(alloc, key)?) {
-            Some(found) if found.bytes() == value.as_bytes() => {}
-            _ => return Ok(false),
-        }
-    }
-    Ok(table.len() == want.len() as u64)
-}
-
-/// The map that the records of five changes leave.
+/// The map that their records leave.
 fn replayed(alloc: Global) -> Result<Table, NoMemory> {
-    let mut records = Vec::new(alloc);
-    for (key, value) in [
-        ("a", Some("1")),
-        ("b", Some("1")),
-        ("a", None),
-        ("c", Some("2")),
-        ("b", Some("3")),
-    ] {
-        records.push(pair(alloc, key, value)?)?;
-    }
+    let records = records(alloc, FIVE)?;
     replay(alloc, records.as_slice())
 }
 
 #[test]
 fn records_leave_their_last_values(rt: HostRuntime) -> Result<(), Fail> {
     let table = replayed(rt.alloc())?;
-    assert!(rt; has(rt.alloc(), &table, &[("b", "3"), ("c", "2")])?);
+    assert!(rt; has_pairs(rt.alloc(), &table, &[("b", "3"), ("c", "2")])?);
     Ok(())
-}
-
-/// One store and one output.
-fn word_setup(alloc: Global) -> Result<Setup, NoMemory> {
-    let store = StoreSetup {
-        name: bin(alloc, "counts")?,
-        cache: 16,
-        batch: 16,
-    };
-    Ok(Setup {
-        task: TaskName(0),
-        inputs: Items::from_vec(Vec::new(alloc)),
-        stores: list(alloc, store)?,
-        outputs: list(alloc, bin(alloc, "kafka.totals")?)?,
-        concurrency: 1,
-        span: 1,
-        async_commit: false,
-        window_ms: None,
-        commit_ms: None,
-        timeout_ms: None,
-    })
 }
 
 fn blank(alloc: Global) -> Result<PlainState, NoMemory> {
@@ -192,33 +104,18 @@ fn blank(alloc: Global) -> Result<PlainState, NoMemory> {
     Ok(PlainState::of(stores, sent))
 }
 
-fn message(alloc: Global, offset: u64, value: Option<Bin>) -> Result<Envelope, NoMemory> {
-    Ok(Envelope {
-        ssp: Ssp {
-            system: bin(alloc, "kafka")?,
-            stream: bin(alloc, "lines")?,
-            partition: 0,
-        },
-        offset,
-        body: Record {
-            key: bin(alloc, "")?,
-            value,
-        },
-    })
-}
-
 /// Whether the state has one store, with just these pairs.
 fn holds(alloc: Global, state: &PlainState, pairs: &[(&str, &str)]) -> Result<bool, NoMemory> {
     match state.stores() {
-        [table] => has(alloc, table, pairs),
+        [table] => has_pairs(alloc, table, pairs),
         _ => Ok(false),
     }
 }
 
 /// Whether the state has one output, which was sent these, the oldest first.
-fn sent(state: &PlainState, want: &[(&str, &str)]) -> bool {
+fn sent(state: &PlainState, want: &[(&str, Option<&str>)]) -> bool {
     match state.sent() {
-        [records] => are_pairs(records.as_slice(), want),
+        [records] => are_records(records.as_slice(), want),
         _ => false,
     }
 }
@@ -239,7 +136,7 @@ fn messages(alloc: Global, values: &[Option<&str>]) -> Result<Vec<Envelope>, NoM
 /// What messages of these values leave, from nothing; None where one of them isn't done.
 fn left_by(alloc: Global, values: &[Option<&str>]) -> Result<Option<PlainState>, NoMemory> {
     let messages = messages(alloc, values)?;
-    let setup = word_setup(alloc)?;
+    let setup = setup(alloc)?;
     let state = blank(alloc)?;
     fold_all(alloc, &WordCount, &setup, messages.as_slice(), state)
 }
@@ -249,7 +146,12 @@ fn two_messages_are_counted_in_order(rt: HostRuntime) -> Result<(), Fail> {
     let left = left_by(rt.alloc(), &[Some("a b"), Some("a")])?;
     let state = left.ok_or("not done")?;
     assert!(rt; holds(rt.alloc(), &state, &[("a", "2"), ("b", "1")])?);
-    assert!(rt; sent(&state, &[("a", "1"), ("b", "1"), ("a", "2")]));
+    assert!(rt;
+        sent(
+            &state,
+            &[("a", Some("1")), ("b", Some("1")), ("a", Some("2"))]
+        )
+    );
     Ok(())
 }
 
@@ -266,7 +168,7 @@ fn end_from(
     message: &Envelope,
     state: &mut PlainState,
 ) -> Result<Option<Why>, NoMemory> {
-    let setup = word_setup(alloc)?;
+    let setup = setup(alloc)?;
     run_one(alloc, &WordCount, &setup, message, state)
 }
 
@@ -301,7 +203,7 @@ fn a_message_of_341_words_is_done_and_one_of_342_is_not(rt: HostRuntime) -> Resu
         let text = words(rt.alloc(), count)?;
         let (end, state) = end_of(rt.alloc(), Some(text))?;
         assert_eq!(rt; end, want);
-        assert!(rt; holds(rt.alloc(), &state, &[("w", "341")])?);
+        assert!(rt; holds(rt.alloc(), &state, &[("w", "341")])?, "of {count}");
     }
     Ok(())
 }
@@ -360,14 +262,14 @@ fn is_next(
 }
 
 /// A store and a key, how that is got, and the pair from it on.
-type Row = (
+type Looked = (
     u32,
     &'static str,
     &'static [&'static str],
     &'static [&'static str],
 );
 
-const ANSWERS: &[Row] = &[
+const ANSWERS: &[Looked] = &[
     (0, "a", &[], &["b", "3"]),
     (0, "b", &["3"], &["b", "3"]),
     (0, "c", &[], &["d", "2"]),

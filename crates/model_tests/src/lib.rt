@@ -1,5 +1,8 @@
-//! Worked examples for the definitions of the model, by the plain programs whose contracts they are.
+//! Worked examples for the definitions of the model, by the plain programs whose contracts they are, and for the acts of the shipped
+//! jobs.
 #![tactic(auto)]
 
 #[cfg(test)]
 mod examples;
+#[cfg(test)]
+mod word_counts;

@@ -1,4 +1,4 @@
-// Small records and lists, of which the examples are made.
+// Small byte strings, lists and records, of which the examples are made.
 ghost use Rattle.std.specs.Prelude.{◌≡◌, IfOk, length};
 ghost use Rattle.std.specs.List.{AllByRecursion};
 ghost use Rattle.samza_model.specs.Limits.{IsWithinLimits};
@@ -6,7 +6,22 @@ ghost use Rattle.samza_model.specs.Limits.{IsWithinLimits};
 use samza_model::{Bin, Items, NoMemory, Record};
 use std::alloc::Global;
 
-pub(crate) fn set(alloc: Global, key: &[u8; 1], value: &[u8; 1]) -> Result<Record, NoMemory>
+/// The bytes of a text.
+pub fn bin(alloc: Global, text: &str) -> Result<Bin, NoMemory> {
+    Bin::of(alloc, text.as_bytes())
+}
+
+/// The list of this item alone.
+pub fn list<T: Drop>(alloc: Global, item: T) -> Result<Items<T>, NoMemory>
+    ensures { IfOk result (λ list. length list ≡ 1) }
+{
+    let mut items = Vec::new(alloc);
+    items.push(item)?;
+    Ok(Items::from_vec(items))
+}
+
+/// The record that sets a key's value.
+pub fn set(alloc: Global, key: &[u8; 1], value: &[u8; 1]) -> Result<Record, NoMemory>
     ensures { IfOk result IsWithinLimits }
 {
     Ok(Record {
@@ -16,7 +31,7 @@ pub(crate) fn set(alloc: Global, key: &[u8; 1], value: &[u8; 1]) -> Result<Recor
 }
 
 /// The record that takes a key away.
-pub(crate) fn removal(alloc: Global, key: &[u8; 1]) -> Result<Record, NoMemory>
+pub fn removal(alloc: Global, key: &[u8; 1]) -> Result<Record, NoMemory>
     ensures { IfOk result IsWithinLimits }
 {
     Ok(Record {
@@ -25,20 +40,11 @@ pub(crate) fn removal(alloc: Global, key: &[u8; 1]) -> Result<Record, NoMemory>
     })
 }
 
-/// The list of this item alone.
-pub(crate) fn list<T: Drop>(alloc: Global, item: T) -> Result<Items<T>, NoMemory>
-    ensures { IfOk result (λ list. length list ≡ 1) }
-{
-    let mut items = Vec::new(alloc);
-    items.push(item)?;
-    Ok(Items::from_vec(items))
-}
-
 /// A key, and its value or none.
-pub(crate) type Row = (&'static [u8; 1], Option<&'static [u8; 1]>);
+pub type Row = (&'static [u8; 1], Option<&'static [u8; 1]>);
 
 /// The record of a key and its value, or of none, which takes the key away.
-pub(crate) fn record(alloc: Global, row: Row) -> Result<Record, NoMemory>
+pub fn record(alloc: Global, row: Row) -> Result<Record, NoMemory>
     ensures { IfOk result IsWithinLimits }
 {
     match row {
@@ -48,7 +54,7 @@ pub(crate) fn record(alloc: Global, row: Row) -> Result<Record, NoMemory>
 }
 
 /// The records of these keys and values.
-pub(crate) fn records(alloc: Global, rows: &[Row]) -> Result<Vec<Record>, NoMemory>
+pub fn records(alloc: Global, rows: &[Row]) -> Result<Vec<Record>, NoMemory>
     ensures { IfOk result (λ r. AllByRecursion IsWithinLimits r.items) }
 {
     let mut records = Vec::new(alloc);

@@ -1,28 +1,9 @@
 // The word count's acts, by examples.
-
-use samza_model::{Act, Answer, Bin, Envelope, Job, NoMemory, Record, Ssp};
+use samza_model::{Act, Answer, Bin, Envelope, Job, NoMemory};
 use shipped_jobs::WordCount;
 use std::alloc::Global;
 use std::test::Fail;
-
-fn bin(alloc: Global, text: &str) -> Result<Bin, NoMemory> {
-    Bin::of(alloc, text.as_bytes())
-}
-
-fn message(alloc: Global, value: Option<Bin>) -> Result<Envelope, NoMemory> {
-    Ok(Envelope {
-        ssp: Ssp {
-            system: bin(alloc, "kafka")?,
-            stream: bin(alloc, "lines")?,
-            partition: 0,
-        },
-        offset: 7,
-        body: Record {
-            key: bin(alloc, "")?,
-            value,
-        },
-    })
-}
+use test_kit::{bin, is_text, message};
 
 #[derive(Clone, Copy)]
 enum Want {
@@ -33,20 +14,9 @@ enum Want {
     Fail(u32),
 }
 
-fn is_text(bin: &Bin, text: &str) -> bool {
-    bin.bytes() == text.as_bytes()
-}
-
-fn is_value(value: &Option<Bin>, text: &str) -> bool {
-    match value {
-        Some(bin) => is_text(bin, text),
-        None => false,
-    }
-}
-
 fn is_wanted(act: &Act, want: Want) -> bool {
     match (act, want) {
-        (Act::Get { store: 0, key }, Want::Get(word)) => is_text(key, word),
+        (Act::Get { store: 0, key }, Want::Get(word)) => is_text(Some(key), Some(word)),
         (
             Act::Put {
                 store: 0,
@@ -54,9 +24,9 @@ fn is_wanted(act: &Act, want: Want) -> bool {
                 value,
             },
             Want::Put(word, text),
-        ) => is_text(key, word) && is_text(value, text),
+        ) => is_text(Some(key), Some(word)) && is_text(Some(value), Some(text)),
         (Act::Send { output: 0, body }, Want::Send(word, text)) => {
-            is_text(&body.key, word) && is_value(&body.value, text)
+            is_text(Some(&body.key), Some(word)) && is_text(body.value.as_ref(), Some(text))
         }
         (Act::Done, Want::Done) => true,
         (Act::Fail(code), Want::Fail(wanted)) => *code == wanted,
@@ -97,7 +67,7 @@ fn are_acts(alloc: Global, message: &Envelope, wants: &[Want]) -> Result<bool, N
 
 /// The same of a message of this value.
 fn acts_so(alloc: Global, value: Option<Bin>, wants: &[Want]) -> Result<bool, NoMemory> {
-    let message = message(alloc, value)?;
+    let message = message(alloc, 7, value)?;
     are_acts(alloc, &message, wants)
 }
 
@@ -137,7 +107,7 @@ const STORED: &[(&str, Want)] = &[
 /// Whether the job acts so where it is answered that the store has this value of the word w.
 fn counts_on(alloc: Global, found: &str, want: Want) -> Result<bool, NoMemory> {
     let found = [Answer::Found(bin(alloc, found)?)];
-    let message = message(alloc, Some(bin(alloc, "w")?))?;
+    let message = message(alloc, 7, Some(bin(alloc, "w")?))?;
     is_acted(alloc, &message, &found, want)
 }
 
