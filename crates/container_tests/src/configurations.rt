@@ -1,6 +1,6 @@
 // Configurations, and what is told of a run of a folder that has them.
 use crate::examples::{CHECKPOINT, CONFIGURATION, COUNTS, FIRST_REPORT, TOTALS, TWO_LINES};
-use crate::steps::{Scenario, Step, astray_in, first_failed, with_lines};
+use crate::steps::{Scenario, Step, all_go, astray_in, none_astray, with_lines};
 use std::alloc::Global;
 use std::test::Fail;
 
@@ -27,10 +27,10 @@ task.inputs : kafka.lines
 app.outputs kafka.tot\\u00G1ls
 ";
 
-/// Whether a run of the two lines with this configuration is refused with this status and line.
-fn is_refused(alloc: Global, text: &[u8], status: u8, line: &[u8]) -> Result<bool, Fail> {
+/// Fails where a run of the two lines with this configuration isn't refused with this status and line.
+fn refuses(alloc: Global, shows: &str, text: &[u8], status: u8, line: &[u8]) -> Result<(), Fail> {
     let steps = [Step::Lines(0, TWO_LINES), Step::Refuses(status, line)];
-    Ok(astray_in(alloc, text, &steps)?.is_none())
+    none_astray(shows, astray_in(alloc, text, &steps)?)
 }
 
 /// A text of one comment of so many bytes.
@@ -93,77 +93,70 @@ const TEXTS: &[Scenario] = &[
 
 #[test]
 fn a_text_is_run_or_what_is_wrong_is_told(rt: HostRuntime) -> Result<(), Fail> {
-    assert_eq!(rt; first_failed(rt.alloc(), TEXTS)?, None);
-    Ok(())
+    all_go(rt.alloc(), TEXTS)
 }
 
-/// Whether a run with a text of so many bytes that say nothing is refused with this status and line.
-fn is_long_refused(alloc: Global, bytes: usize, status: u8, line: &[u8]) -> Result<bool, Fail> {
-    let text = comment(alloc, bytes)?;
-    is_refused(alloc, text.as_slice(), status, line)
-}
+/// How many bytes a text of a comment has, and what is told of it.
+const LONG: &[(&str, usize, u8, &[u8])] = &[
+    ("a mebibyte and a byte", 1_048_577, 9, b"limit: text\n"),
+    ("a mebibyte", 1_048_576, 3, b"config: task.class: Missing\n"),
+];
 
 #[test]
 fn a_text_above_a_mebibyte_is_refused(rt: HostRuntime) -> Result<(), Fail> {
-    assert!(rt; is_long_refused(rt.alloc(), 1_048_577, 9, b"limit: text\n")?);
-    assert!(rt; is_long_refused(rt.alloc(), 1_048_576, 3, b"config: task.class: Missing\n")?);
+    for (shows, bytes, status, line) in LONG {
+        let text = comment(rt.alloc(), *bytes)?;
+        refuses(rt.alloc(), shows, text.as_slice(), *status, line)?;
+    }
     Ok(())
 }
 
-/// Lines that ask for what isn't built, and what is told of them. A later row's line doesn't hide an earlier one's.
-const NOT_BUILT: [(&[u8], &[u8]); 9] = [
+/// Lines that ask for what isn't built, and the key that is told. A later row's line doesn't hide an earlier one's.
+const NOT_BUILT: [(&str, &str); 9] = [
     (
-        b"systems.kafka.default.stream.samza.reset.offset=true\n",
-        b"config: systems.kafka.default.stream.samza.reset.offset: NotBuilt\n",
+        "systems.kafka.default.stream.samza.reset.offset=true\n",
+        "systems.kafka.default.stream.samza.reset.offset",
     ),
     (
-        b"systems.kafka.streams.lines.samza.offset.default=upcoming\n",
-        b"config: systems.kafka.default.stream.samza.offset.default: NotBuilt\n",
+        "systems.kafka.streams.lines.samza.offset.default=upcoming\n",
+        "systems.kafka.default.stream.samza.offset.default",
     ),
+    ("task.async.commit=true\n", "task.async.commit"),
+    ("task.window.ms=1\n", "task.window.ms"),
+    ("task.max.concurrency=2\n", "task.max.concurrency"),
     (
-        b"task.async.commit=true\n",
-        b"config: task.async.commit: NotBuilt\n",
+        "job.container.thread.pool.size=1\n",
+        "job.container.thread.pool.size",
     ),
-    (b"task.window.ms=1\n", b"config: task.window.ms: NotBuilt\n"),
-    (
-        b"task.max.concurrency=2\n",
-        b"config: task.max.concurrency: NotBuilt\n",
-    ),
-    (
-        b"job.container.thread.pool.size=1\n",
-        b"config: job.container.thread.pool.size: NotBuilt\n",
-    ),
-    (
-        b"job.container.count=2\n",
-        b"config: job.container.count: NotBuilt\n",
-    ),
-    (
-        b"task.inputs=kafka.lines,kafka.more\n",
-        b"config: task.inputs: NotBuilt\n",
-    ),
-    (b"task.class=Dedupe\n", b"config: task.class: NotBuilt\n"),
+    ("job.container.count=2\n", "job.container.count"),
+    ("task.inputs=kafka.lines,kafka.more\n", "task.inputs"),
+    ("task.class=Dedupe\n", "task.class"),
 ];
 
-/// The first row that isn't told, where its line stands behind the configuration alone, or behind all rows before it.
-fn first_untold(alloc: Global, rows: &[(&[u8], &[u8])]) -> Result<Option<usize>, Fail> {
+/// What is told of a key that isn't built.
+fn not_built(alloc: Global, key: &str) -> Result<Vec<u8>, Fail> {
+    let mut line = Vec::from_slice(alloc, b"config: ")?;
+    line.extend_from_slice(key.as_bytes())?;
+    line.extend_from_slice(b": NotBuilt\n")?;
+    Ok(line)
+}
+
+/// Fails with the first row that isn't told, where its line stands behind the configuration alone, or behind all rows before it.
+fn all_told(alloc: Global, rows: &[(&str, &str)]) -> Result<(), Fail> {
     let mut all = Vec::from_slice(alloc, CONFIGURATION)?;
-    for (place, (lines, line)) in rows.iter().enumerate() {
-        let alone = with_lines(alloc, CONFIGURATION, lines)?;
-        all.extend_from_slice(lines)?;
-        if !is_refused(alloc, alone.as_slice(), 3, line)? {
-            return Ok(Some(place));
-        }
-        if !is_refused(alloc, all.as_slice(), 3, line)? {
-            return Ok(Some(place));
-        }
+    for (lines, key) in rows {
+        let alone = with_lines(alloc, CONFIGURATION, lines.as_bytes())?;
+        all.extend_from_slice(lines.as_bytes())?;
+        let line = not_built(alloc, key)?;
+        refuses(alloc, key, alone.as_slice(), 3, line.as_slice())?;
+        refuses(alloc, key, all.as_slice(), 3, line.as_slice())?;
     }
-    Ok(None)
+    Ok(())
 }
 
 #[test]
 fn the_first_key_that_is_not_built_is_told(rt: HostRuntime) -> Result<(), Fail> {
-    assert_eq!(rt; first_untold(rt.alloc(), &NOT_BUILT)?, None);
-    Ok(())
+    all_told(rt.alloc(), &NOT_BUILT)
 }
 
 /// A task's files with a configuration of other names than those of its checkpoint.
@@ -202,6 +195,5 @@ const KEPT: &[Step] = &[
 
 #[test]
 fn other_names_are_refused_by_the_checkpoint(rt: HostRuntime) -> Result<(), Fail> {
-    assert_eq!(rt; first_failed(rt.alloc(), OTHER_NAMES)?, None);
-    Ok(())
+    all_go(rt.alloc(), OTHER_NAMES)
 }

@@ -4,16 +4,18 @@ ghost use Rattle.disk_model.specs.Handles.{NoneOut};
 ghost use Rattle.disk_model.specs.MemoryHost.{host_disks_out, host_shelves_out};
 
 use crate::examples::{
-    BEHIND_THIRD, CHECKPOINT, CONFIGURATION, COUNTS, MORE_COUNTS, MORE_TOTALS, THIRD_LINE,
-    THREE_LINES, TOTALS, TWO_LINES,
+    A_2, BEHIND_THIRD, CHECKPOINT, CLOSED, CONFIGURATION, COUNTED, COUNTS, CUT_HEADER,
+    FIRST_CHANGES, FIRST_MARK, FIRST_SENT, LINES, MARK, MORE_COUNTS, MORE_TOTALS, N2, N3, N8, NO_C,
+    SENT, THIRD_CHANGES, THIRD_LINE, THIRD_SENT, THREE_LINES, TOTALS, TWO_OF_19,
 };
-use crate::steps::{Step, TASK, first_astray, folder, goes, run_with};
+use crate::steps::{Step, TASK, first_astray, folder, goes, none_astray, run_with};
 use checkpoint_log::decode_checkpoint;
 use disk_model::{Host, MemHost, Pick};
 use kv_store::Table;
-use samza_model::{Bin, Plain, Record};
+use samza_model::{Plain, Record};
 use std::alloc::Global;
 use std::test::Fail;
+use test_kit::{File, has_pairs};
 use topic_log::read_shelf;
 
 const CHECKPOINTS: u32 = 0;
@@ -22,16 +24,23 @@ const CHANGES: u32 = 1;
 
 const OUTPUT: u32 = 16;
 
-/// The frame that takes (a,3) and (c,1) back, and the frame of these two, each behind its open gate.
-const TAKEN_BACK: &[u8] =
-    b"O\x00\x00\x00\x13\x00\x00\x00\x02\x00\x00\x00\x01a\x00\x00\x00\x012\x00\x00\x00\x01c\xff\xff\xff\xff";
+/// The changelog with the third line's changes, those that take them back, and the third line's again.
+const TAKEN_BACK: File = &[
+    FIRST_CHANGES,
+    THIRD_CHANGES,
+    &[TWO_OF_19, A_2, NO_C],
+    THIRD_CHANGES,
+    CLOSED,
+];
 
-const THIRD_COUNTS: &[u8] =
-    b"O\x00\x00\x00\x14\x00\x00\x00\x02\x00\x00\x00\x01a\x00\x00\x00\x013\x00\x00\x00\x01c\x00\x00\x00\x011";
+/// The checkpoints of a run on the third line that took two records back, and what was sent by it and by the one that stopped.
+const COUNTS_EIGHT: File = &[
+    FIRST_MARK,
+    &[MARK, N2, LINES, N3, COUNTED, N8, SENT],
+    CLOSED,
+];
 
-/// The checkpoints of a run on the third line that took two records back, and what it sent behind what was sent already.
-const COUNTS_EIGHT: &[u8] =
-    b"O\x00\x00\x00I\x00\x00\x00\x01\x00\x00\x00\x08\x00\x00\x00\x00\x00\x00\x00\x01\x00\x00\x009\x01\x00\x01\x0bkafka.lines\x00\x00\x00\x00\x00\x00\x00\x00\x00\x00\x00\x02\x01\x06counts\x00\x00\x00\x00\x00\x00\x00\x02\x01\x0ckafka.totalsO\x00\x00\x00I\x00\x00\x00\x01\x00\x00\x00\x08\x00\x00\x00\x00\x00\x00\x00\x02\x00\x00\x009\x01\x00\x01\x0bkafka.lines\x00\x00\x00\x00\x00\x00\x00\x00\x00\x00\x00\x03\x01\x06counts\x00\x00\x00\x00\x00\x00\x00\x08\x01\x0ckafka.totalsC";
+const SENT_TWICE: File = &[FIRST_SENT, THIRD_SENT, THIRD_SENT, CLOSED];
 
 /// How many device calls a run makes before it appends to the output, where it has nothing to take back; and how many before
 /// it opens the gate of what it takes back, where the changelog has two frames.
@@ -101,24 +110,10 @@ fn folded(alloc: Global, records: &[Record]) -> Result<Table, Fail> {
     Ok(table)
 }
 
-/// Whether the table has just these pairs.
-fn has_just(alloc: Global, table: &Table, pairs: &[(&[u8; 1], &[u8; 1])]) -> Result<bool, Fail> {
-    for (key, value) in pairs {
-        let found = match table.get(&Bin::of(alloc, key.as_slice())?) {
-            Some(found) => found.bytes() == value.as_slice(),
-            None => false,
-        };
-        if !found {
-            return Ok(false);
-        }
-    }
-    Ok(table.len() == pairs.len() as u64)
-}
-
 /// The store at the first checkpoint, and at the second.
-const FIRST_STORE: &[(&[u8; 1], &[u8; 1])] = &[(b"a", b"2"), (b"b", b"1")];
+const FIRST_STORE: &[(&str, &str)] = &[("a", "2"), ("b", "1")];
 
-const SECOND_STORE: &[(&[u8; 1], &[u8; 1])] = &[(b"a", b"3"), (b"b", b"1"), (b"c", b"1")];
+const SECOND_STORE: &[(&str, &str)] = &[("a", "3"), ("b", "1"), ("c", "1")];
 
 /// The last checkpoint's number, the next offset that it has, and how many records of the changelog it counts.
 fn last_checkpoint(alloc: Global, host: &mut MemHost) -> Result<(u64, u64, u64), Fail>
@@ -150,17 +145,18 @@ enum Left {
 }
 
 /// The report of a run with nothing to do behind the third checkpoint.
-const BEHIND_FOURTH: &[u8] =
-    b"container 0 tasks 1\nPartition 0 checkpoint 4 new 0\n  input kafka.lines 0 next 3 end 3\n  store counts keys 3\n  output kafka.totals sent 0\ntotal new 0\n";
+const BEHIND_FOURTH: &[u8] = b"container 0 tasks 1
+Partition 0 checkpoint 4 new 0
+  input kafka.lines 0 next 3 end 3
+  store counts keys 3
+  output kafka.totals sent 0
+total new 0
+";
 
 /// Whether these records of the changelog make just these pairs.
-fn make_just(
-    alloc: Global,
-    records: &[Record],
-    pairs: &[(&[u8; 1], &[u8; 1])],
-) -> Result<bool, Fail> {
+fn make_just(alloc: Global, records: &[Record], pairs: &[(&str, &str)]) -> Result<bool, Fail> {
     let table = folded(alloc, records)?;
-    has_just(alloc, &table, pairs)
+    Ok(has_pairs(alloc, &table, pairs)?)
 }
 
 fn what_is_left(alloc: Global, host: &mut MemHost) -> Result<Left, Fail>
@@ -185,7 +181,7 @@ fn what_is_left(alloc: Global, host: &mut MemHost) -> Result<Left, Fail>
 fn whole_changelog(
     alloc: Global,
     host: &mut MemHost,
-    pairs: &[(&[u8; 1], &[u8; 1])],
+    pairs: &[(&str, &str)],
 ) -> Result<(bool, u64), Fail>
     requires { NoneOut (host_disks_out host.old) (host_shelves_out host.old) }
     ensures { NoneOut (host_disks_out host.new) (host_shelves_out host.new) }
@@ -272,21 +268,23 @@ const PICKS: [Pick; 5] = [
     Pick::Cut(1),
 ];
 
-/// The first of the five images that leaves other records than these, each so many times in this order.
-fn first_other(
+/// Fails with the first of the five images that leaves other records than these, each so many times in this order, and with what it
+/// leaves.
+fn all_leave(
     alloc: Global,
     start: Start,
     left: &[(usize, usize, usize)],
     times: &[&[u32]; 5],
-) -> Result<Option<Pick>, Fail> {
+) -> Result<(), Fail> {
     for (pick, times) in PICKS.iter().zip(times) {
         let expected = in_order(alloc, left, times)?;
         let found = crashes(alloc, start, *pick)?;
         if found.as_slice() != expected.as_slice() {
-            return Ok(Some(*pick));
+            let found = found.as_slice();
+            return Err(Fail::new(format_args!("{pick:?} leaves {found:?}")));
         }
     }
-    Ok(None)
+    Ok(())
 }
 
 /// The numbers of the task's records that a crash of a run on the third line leaves, and how often each image leaves each.
@@ -305,8 +303,7 @@ const TIMES: [&[u32]; 5] = [
 
 #[test]
 fn a_run_after_a_crash_at_any_call_goes_on(rt: HostRuntime) -> Result<(), Fail> {
-    assert_eq!(rt; first_other(rt.alloc(), Start::Second, LEFT, &TIMES)?, None);
-    Ok(())
+    all_leave(rt.alloc(), Start::Second, LEFT, &TIMES)
 }
 
 /// The same of a run that takes a tail back. Before the output is opened two records are appended to the changelog, which
@@ -329,11 +326,7 @@ const TIMES_OF_TAIL: [&[u32]; 5] = [
 
 #[test]
 fn a_crash_of_a_run_that_takes_a_tail_back_is_gone_on_from(rt: HostRuntime) -> Result<(), Fail> {
-    assert_eq!(rt;
-        first_other(rt.alloc(), Start::Third, LEFT_OF_TAIL, &TIMES_OF_TAIL)?,
-        None
-    );
-    Ok(())
+    all_leave(rt.alloc(), Start::Third, LEFT_OF_TAIL, &TIMES_OF_TAIL)
 }
 
 /// Stops a run on the third line behind so many calls and, after a crash, the next one behind so many. None where one of them
@@ -351,51 +344,38 @@ fn stopped_twice(alloc: Global, pick: Pick, first: u64, second: u64) -> Result<O
     Ok(Some(once != Left::Other && goes_on(alloc, &mut host, twice)?))
 }
 
-/// How many pairs of stops were tried, and whether all of them went on.
-fn all_pairs(alloc: Global, pick: Pick) -> Result<(u32, bool), Fail> {
+/// How many pairs of stops were tried. Fails with the first pair that wasn't gone on from.
+fn all_pairs(alloc: Global, pick: Pick) -> Result<u32, Fail> {
     let mut tried = 0;
     for first in 0..25 {
         for second in 0..64 {
             match stopped_twice(alloc, pick, first, second)? {
                 Some(true) => tried = u32::saturating_add(tried, 1),
-                Some(false) => return Ok((tried, false)),
+                Some(false) => return Err(Fail::new(format_args!("behind {first} and {second}"))),
                 None => break,
             }
         }
     }
-    Ok((tried, true))
+    Ok(tried)
 }
 
 #[test]
 fn a_crash_inside_the_run_after_a_crash_is_gone_on_from(rt: HostRuntime) -> Result<(), Fail> {
     let alloc = rt.alloc();
-    assert_eq!(rt; all_pairs(alloc, Pick::Old)?, (661, true));
+    assert_eq!(rt; all_pairs(alloc, Pick::Old)?, 661);
     Ok(())
 }
 
 #[test]
 fn so_is_one_that_leaves_each_free_byte_an_open_gate(rt: HostRuntime) -> Result<(), Fail> {
     let alloc = rt.alloc();
-    assert_eq!(rt; all_pairs(alloc, Pick::Fill(0x4F))?, (649, true));
+    assert_eq!(rt; all_pairs(alloc, Pick::Fill(0x4F))?, 649);
     Ok(())
-}
-
-/// The first changelog's bytes without their last gate, and these frames behind them with a closed one.
-fn changes_with(alloc: Global, frames: &[&[u8]]) -> Result<Vec<u8>, Fail> {
-    let mut bytes = Vec::from_slice(alloc, &COUNTS[..29])?;
-    for frame in frames {
-        bytes.extend_from_slice(frame)?;
-    }
-    bytes.push(b'C')?;
-    Ok(bytes)
 }
 
 #[test]
 fn the_tail_of_a_changelog_is_taken_back(rt: HostRuntime) -> Result<(), Fail> {
     let alloc = rt.alloc();
-    let changes = changes_with(alloc, &[THIRD_COUNTS, TAKEN_BACK, THIRD_COUNTS])?;
-    let mut sent = Vec::from_slice(alloc, &MORE_TOTALS[..68])?;
-    sent.extend_from_slice(&MORE_TOTALS[39..])?;
     let mut host = begin(alloc, Start::Second)?;
     let steps = [
         Step::Stop(OPENING + 8),
@@ -404,12 +384,11 @@ fn the_tail_of_a_changelog_is_taken_back(rt: HostRuntime) -> Result<(), Fail> {
         Step::Has(CHECKPOINTS, CHECKPOINT),
         Step::Has(CHANGES, MORE_COUNTS),
         Step::Reports(THIRD_LINE),
-        Step::Has(CHANGES, changes.as_slice()),
+        Step::Has(CHANGES, TAKEN_BACK),
         Step::Has(CHECKPOINTS, COUNTS_EIGHT),
-        Step::Has(OUTPUT, sent.as_slice()),
+        Step::Has(OUTPUT, SENT_TWICE),
     ];
-    assert_eq!(rt; first_astray(alloc, &mut host, &steps)?, None);
-    Ok(())
+    none_astray("a tail", first_astray(alloc, &mut host, &steps)?)
 }
 
 /// Whether the task is opened, and then its input can't be read.
@@ -418,7 +397,7 @@ fn is_opened_alone(alloc: Global, host: &mut MemHost) -> Result<bool, Fail>
     ensures { NoneOut (host_disks_out host.new) (host_shelves_out host.new) }
 {
     let steps = [
-        Step::Lines(0, &TWO_LINES[..12]),
+        Step::Lines(0, CUT_HEADER),
         Step::Refuses(6, b"damaged: kafka.lines 0: byte 1\n"),
     ];
     Ok(first_astray(alloc, host, &steps)?.is_none())

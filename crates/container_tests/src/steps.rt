@@ -9,6 +9,7 @@ use samza_container::samza_main;
 use samza_model::Bin;
 use std::alloc::Global;
 use std::test::Fail;
+use test_kit::{File, joined};
 
 /// The one task of the examples.
 pub(crate) const TASK: DiskName = DiskName::Task(0);
@@ -17,9 +18,9 @@ pub(crate) const TASK: DiskName = DiskName::Task(0);
 #[derive(Clone, Copy)]
 pub(crate) enum Step<'a> {
     /// A partition of the input gets these bytes.
-    Lines(u32, &'a [u8]),
+    Lines(u32, File),
     /// A file of the task gets these bytes.
-    File(u32, &'a [u8]),
+    File(u32, File),
     /// The host's call of this number fails, counted from here.
     Fail(u64),
     /// Each call of the task's disk behind the first so many fails.
@@ -33,7 +34,7 @@ pub(crate) enum Step<'a> {
     /// The folder's run is refused with this status and line.
     Refuses(u8, &'a [u8]),
     /// A file of the task has these bytes.
-    Has(u32, &'a [u8]),
+    Has(u32, File),
     /// The host's calls failed so often.
     Faults(u64),
 }
@@ -59,7 +60,12 @@ fn put(host: &mut MemHost, name: &DiskName, file: u32, bytes: &[u8]) -> Result<(
 }
 
 /// Puts a partition of the input into the folder.
-fn put_lines(alloc: Global, host: &mut MemHost, partition: u32, bytes: &[u8]) -> Result<(), Fail>
+pub(crate) fn put_lines(
+    alloc: Global,
+    host: &mut MemHost,
+    partition: u32,
+    bytes: &[u8],
+) -> Result<(), Fail>
     requires { NoneOut (host_disks_out host.old) (host_shelves_out host.old) }
     ensures { NoneOut (host_disks_out host.new) (host_shelves_out host.new) }
 {
@@ -115,14 +121,26 @@ fn ends(
     Ok(ended.status == status && ended.out.bytes() == out && ended.err.bytes() == err)
 }
 
+/// Whether a file of the task has these bytes.
+fn has(alloc: Global, host: &MemHost, file: u32, pieces: File) -> Result<bool, Fail> {
+    let bytes = joined(alloc, pieces)?;
+    Ok(host.file(&TASK, file) == bytes.as_slice())
+}
+
 /// Takes a step that wants nothing of the folder.
 fn take(alloc: Global, host: &mut MemHost, step: Step) -> Result<(), Fail>
     requires { NoneOut (host_disks_out host.old) (host_shelves_out host.old) }
     ensures { NoneOut (host_disks_out host.new) (host_shelves_out host.new) }
 {
     match step {
-        Step::Lines(partition, bytes) => put_lines(alloc, host, partition, bytes)?,
-        Step::File(file, bytes) => put(host, &TASK, file, bytes)?,
+        Step::Lines(partition, pieces) => {
+            let bytes = joined(alloc, pieces)?;
+            put_lines(alloc, host, partition, bytes.as_slice())?;
+        }
+        Step::File(file, pieces) => {
+            let bytes = joined(alloc, pieces)?;
+            put(host, &TASK, file, bytes.as_slice())?;
+        }
         Step::Fail(call) => host.fail_next(vec![in alloc; call]?),
         Step::Stop(calls) => host.arm(&TASK, Vec::new(alloc), Some(calls))?,
         Step::Crash(pick) => host.crash(&TASK, pick),
@@ -140,7 +158,7 @@ pub(crate) fn goes(alloc: Global, host: &mut MemHost, step: Step) -> Result<bool
         Step::Ends(words, status, out, err) => ends(alloc, host, words, status, out, err),
         Step::Reports(report) => ends(alloc, host, &["run", "f"], 0, report, b""),
         Step::Refuses(status, line) => ends(alloc, host, &["run", "f"], status, b"", line),
-        Step::Has(file, bytes) => Ok(host.file(&TASK, file) == bytes),
+        Step::Has(file, pieces) => has(alloc, host, file, pieces),
         Step::Faults(count) => Ok(host.faults() == count),
         _ => {
             take(alloc, host, step)?;
@@ -190,17 +208,20 @@ pub(crate) fn with_lines(alloc: Global, text: &[u8], lines: &[u8]) -> Result<Vec
     Ok(all)
 }
 
-/// What the first scenario shows of which a step goes astray, and that step's number; None where all of them go as they
-/// are to.
-pub(crate) fn first_failed(
-    alloc: Global,
-    scenarios: &[Scenario],
-) -> Result<Option<(&'static str, usize)>, Fail> {
+/// Fails with the number of a step that goes astray, behind what is shown by it.
+pub(crate) fn none_astray(shows: &str, step: Option<usize>) -> Result<(), Fail> {
+    match step {
+        Some(number) => Err(Fail::new(format_args!("{shows}: step {number}"))),
+        None => Ok(()),
+    }
+}
+
+/// Fails with what the first scenario shows of which a step goes astray, and that step's number.
+pub(crate) fn all_go(alloc: Global, scenarios: &[Scenario]) -> Result<(), Fail> {
     for scenario in scenarios {
         let text = with_lines(alloc, scenario.text, scenario.lines)?;
-        if let Some(number) = astray_in(alloc, text.as_slice(), scenario.steps)? {
-            return Ok(Some((scenario.shows, number)));
-        }
+        let astray = astray_in(alloc, text.as_slice(), scenario.steps)?;
+        none_astray(scenario.shows, astray)?;
     }
-    Ok(None)
+    Ok(())
 }
