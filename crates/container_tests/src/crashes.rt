@@ -44,9 +44,9 @@ const SENT_TWICE: File = &[FIRST_SENT, THIRD_SENT, THIRD_SENT, CLOSED];
 
 /// How many device calls a run makes before it appends to the output, where it has nothing to take back; and how many before
 /// it opens the gate of what it takes back, where the changelog has two frames.
-const OPENING: u64 = 13;
+const OPENING: u64 = 11;
 
-const REVERT_GATE: u64 = 14;
+const REVERT_GATE: u64 = 11;
 
 /// Where a run begins.
 #[derive(Clone, Copy, Debug, PartialEq, Eq)]
@@ -288,17 +288,17 @@ fn all_leave(
 }
 
 /// The numbers of the task's records that a crash of a run on the third line leaves, and how often each image leaves each.
-/// The opening makes 13 calls. Then the output, the changelog and the checkpoint are appended to, each by a write, a sync, a
+/// The opening makes 11 calls. Then the output, the changelog and the checkpoint are appended to, each by a write, a sync, a
 /// write that opens the gate, and a sync. Before this last sync a crash leaves the gate open where the pick takes the new
 /// byte, or gives it the open gate's value.
 const LEFT: &[(usize, usize, usize)] = &[(1, 2, 3), (1, 2, 5), (1, 4, 5), (2, 4, 5)];
 
 const TIMES: [&[u32]; 5] = [
-    &[17, 4, 4, 0],
-    &[15, 4, 4, 2],
-    &[15, 4, 4, 2],
-    &[17, 4, 4, 0],
-    &[15, 4, 4, 2],
+    &[15, 4, 4, 0],
+    &[13, 4, 4, 2],
+    &[13, 4, 4, 2],
+    &[15, 4, 4, 0],
+    &[13, 4, 4, 2],
 ];
 
 #[test]
@@ -317,11 +317,11 @@ const LEFT_OF_TAIL: &[(usize, usize, usize)] = &[
 ];
 
 const TIMES_OF_TAIL: [&[u32]; 5] = [
-    &[16, 7, 4, 4, 0],
-    &[14, 7, 4, 4, 2],
-    &[14, 7, 4, 4, 2],
-    &[16, 7, 4, 4, 0],
-    &[14, 7, 4, 4, 2],
+    &[13, 7, 4, 4, 0],
+    &[11, 7, 4, 4, 2],
+    &[11, 7, 4, 4, 2],
+    &[13, 7, 4, 4, 0],
+    &[11, 7, 4, 4, 2],
 ];
 
 #[test]
@@ -347,7 +347,7 @@ fn stopped_twice(alloc: Global, pick: Pick, first: u64, second: u64) -> Result<O
 /// How many pairs of stops were tried. Fails with the first pair that wasn't gone on from.
 fn all_pairs(alloc: Global, pick: Pick) -> Result<u32, Fail> {
     let mut tried = 0;
-    for first in 0..25 {
+    for first in 0..23 {
         for second in 0..64 {
             match stopped_twice(alloc, pick, first, second)? {
                 Some(true) => tried = u32::saturating_add(tried, 1),
@@ -362,14 +362,14 @@ fn all_pairs(alloc: Global, pick: Pick) -> Result<u32, Fail> {
 #[test]
 fn a_crash_inside_the_run_after_a_crash_is_gone_on_from(rt: HostRuntime) -> Result<(), Fail> {
     let alloc = rt.alloc();
-    assert_eq!(rt; all_pairs(alloc, Pick::Old)?, 661);
+    assert_eq!(rt; all_pairs(alloc, Pick::Old)?, 561);
     Ok(())
 }
 
 #[test]
 fn so_is_one_that_leaves_each_free_byte_an_open_gate(rt: HostRuntime) -> Result<(), Fail> {
     let alloc = rt.alloc();
-    assert_eq!(rt; all_pairs(alloc, Pick::Fill(0x4F))?, 649);
+    assert_eq!(rt; all_pairs(alloc, Pick::Fill(0x4F))?, 547);
     Ok(())
 }
 

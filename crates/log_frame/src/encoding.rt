@@ -5,7 +5,7 @@ ghost use Rattle.samza_model.specs.Frames.{text_bytes, record_bytes, body_bytes}
 ghost use Rattle.samza_model.specs.Limits.{IsWithinLimits, IsFrameable};
 ghost use Rattle.log_frame.specs.Frame.{IsFrame};
 
-use crate::Frame;
+use crate::{CLOSED_GATE, Frame};
 use samza_model::{NoMemory, Record};
 use std::alloc::{AllocError, Global};
 
@@ -71,6 +71,6 @@ pub fn encode(alloc: Global, records: &[Record]) -> Result<Frame, NoMemory>
     for r in records {
         put_record(&mut out, r)?;
     }
-    out.push(0x43)?;
+    out.push(CLOSED_GATE)?;
     Ok(Frame::of(out, count))
 }

@@ -9,6 +9,7 @@ mod decoding;
 mod encoding;
 mod faults;
 mod frames;
+mod gates;
 mod headers;
 mod reading;
 
@@ -17,5 +18,6 @@ pub use decoding::{Decoded, decode};
 pub use encoding::encode;
 pub use faults::{BadAt, FrameFault};
 pub use frames::Frame;
-pub use headers::frame_len;
+pub use gates::{CLOSED_GATE, OPEN_GATE};
+pub use headers::{FRAME_LIMIT, frame_len};
 pub use reading::{Checked, check};

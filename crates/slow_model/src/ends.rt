@@ -3,18 +3,18 @@ ghost use Rattle.std.specs.Prelude.{◌≡◌, ◌&&◌};
 ghost use Rattle.samza_model.specs.Limits.{act_fits, key_fits, value_fits};
 ghost use Rattle.samza_model.specs.Runs.{end_at};
 
-use samza_model::{Act, Bin, Record, Setup, Why};
+use samza_model::{Act, Bin, KEY_LIMIT, Record, Setup, VALUE_LIMIT, Why};
 
 fn is_short_key(key: &Bin) -> bool
     ensures { result ≡ key_fits key.now }
 {
-    key.bytes().len() <= 1_024
+    key.bytes().len() <= KEY_LIMIT
 }
 
 fn is_short_value(value: &Bin) -> bool
     ensures { result ≡ value_fits (Some value.now) }
 {
-    value.bytes().len() <= 65_536
+    value.bytes().len() <= VALUE_LIMIT
 }
 
 fn is_short(body: &Record) -> bool

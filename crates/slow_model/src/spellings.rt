@@ -9,7 +9,7 @@ ghost use Rattle.samza_model.specs.Logs.{spelled, HasFrames};
 ghost use Rattle.samza_model.specs.Restored.{EndsWith};
 
 use checkpoint_log::encode_checkpoint;
-use log_frame::encode;
+use log_frame::{CLOSED_GATE, OPEN_GATE, encode};
 use samza_model::{Bin, Checkpoint, Items, NoMemory, Record};
 use std::alloc::Global;
 
@@ -19,7 +19,7 @@ fn put_frame(alloc: Global, out: &mut Vec<u8>, records: &[Record]) -> Result<(),
     ensures { OnOk result (out.new.items ≡ out.old.items ++ 0x4F ∷ frame_bytes records.now) }
 {
     let frame = encode(alloc, records)?;
-    out.push(0x4F)?;
+    out.push(OPEN_GATE)?;
     out.extend_from_slice(frame.bytes())?;
     Ok(())
 }
@@ -34,7 +34,7 @@ pub fn spell_log(alloc: Global, frames: &[Items<Record>]) -> Result<Bin, NoMemor
     for records in frames {
         put_frame(alloc, &mut out, records.as_slice())?;
     }
-    out.push(0x43)?;
+    out.push(CLOSED_GATE)?;
     Ok(Bin::from_vec(out))
 }
 

@@ -12,6 +12,7 @@ use crate::calls::{cut, read, size, sync, write};
 use crate::extents::Extent;
 use crate::windows::Window;
 use disk_model::Disk;
+use log_frame::{CLOSED_GATE, OPEN_GATE};
 use std::alloc::Global;
 
 /// A greater file isn't walked: its sizes could leave a number's range.
@@ -109,7 +110,7 @@ fn lacks_gate<D: Disk>(disk: &mut D, file: u32, size: u64) -> Result<bool, LogFa
     }
     let mut byte = [0u8; 1];
     read(disk, file, 0, &mut byte)?;
-    Ok(byte[0] == 0x4F)
+    Ok(byte[0] == OPEN_GATE)
 }
 
 /// Makes a closed gate in a file of no or one byte, where it has none.
@@ -128,7 +129,7 @@ fn put_gate<D: Disk>(disk: &mut D, file: u32, size: u64, gate: u64) -> Result<()
     if !lacks_gate(disk, file, size)? {
         return Ok(());
     }
-    write(disk, file, 0, &[0x43])?;
+    write(disk, file, 0, &[CLOSED_GATE])?;
     sync(disk, file)
 }
 

@@ -8,11 +8,9 @@ ghost use Rattle.topic_log.specs.Lists.{IsListed};
 
 use crate::LogFault;
 use disk_model::Shelf;
-use log_frame::{Decoded, FrameFault, decode};
+use log_frame::{Decoded, FrameFault, OPEN_GATE, decode};
 use samza_model::Record;
 use std::alloc::Global;
-
-const OPEN: u8 = 0x4F;
 
 /// The frame behind the gate that stands here, or `None` where the gate is closed.
 fn batch_in(alloc: Global, bytes: &[u8], gate: usize) -> Result<Option<Decoded>, LogFault>
@@ -27,7 +25,7 @@ fn batch_in(alloc: Global, bytes: &[u8], gate: usize) -> Result<Option<Decoded>,
         return Err(LogFault::Damaged { at: gate as u64 });
     }
     let (_, rest) = bytes.split_at(gate);
-    if rest[0] != OPEN {
+    if rest[0] != OPEN_GATE {
         return Ok(None);
     }
     let (_, behind) = rest.split_at(1);

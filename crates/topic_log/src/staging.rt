@@ -9,9 +9,7 @@ ghost use Rattle.topic_log.specs.Steps.{closed_frames, staged, Extended, Opened,
 use crate::LogFault;
 use crate::calls::{sync, write};
 use disk_model::Disk;
-use log_frame::Frame;
-
-const OPEN: [u8; 1] = [0x4F];
+use log_frame::{Frame, OPEN_GATE};
 
 /// Writes the frames at the file's end, each with a closed gate behind it.
 fn write_frames<D: Disk>(disk: &mut D, file: u32, at: u64, frames: &[Frame]) -> Result<(), LogFault>
@@ -48,7 +46,7 @@ fn open_gates<D: Disk>(disk: &mut D, file: u32, at: u64, frames: &[Frame]) -> Re
     let mut end = at;
     for frame in frames {
         let gate = end + frame.bytes().len() as u64;
-        write(disk, file, gate, &OPEN)?;
+        write(disk, file, gate, &[OPEN_GATE])?;
         end = gate + 1;
     }
     Ok(())
@@ -94,6 +92,6 @@ pub(crate) fn put_behind<D: Disk>(
 {
     stage(disk, file, gate + 1, frames)?;
     // The frames are on the disk. From here on a crash leaves all of them or none.
-    write(disk, file, gate, &OPEN)?;
+    write(disk, file, gate, &[OPEN_GATE])?;
     sync(disk, file)
 }

@@ -10,13 +10,11 @@ ghost use Rattle.topic_log.specs.Damage.{IsDamage, StopsAt};
 use crate::LogFault;
 use crate::calls::read;
 use disk_model::Disk;
-use log_frame::{BadAt, Checked, check, frame_len};
+use log_frame::{BadAt, Checked, OPEN_GATE, check, frame_len};
 use std::alloc::Global;
 
 /// How many bytes are read at once, where the file has as many.
 const CHUNK: u64 = 1 << 16;
-
-const OPEN: u8 = 0x4F;
 
 /// Some of a file's bytes: a chunk, or a whole frame where that is longer.
 #[derive(Debug, Drop)]
@@ -205,7 +203,7 @@ impl Window {
         }
         self.load(disk, gate, 1)?;
         let byte = self.view(gate, 1)[0];
-        if byte != OPEN {
+        if byte != OPEN_GATE {
             return Ok(None);
         }
         match self.frame_behind(disk, gate + 1) {
