@@ -1,7 +1,7 @@
 -- A frame that is read from its place.
-use Rattle.std.proofs.Common.{min, ℕ, ◌≡◌, ◌^◌, ◌+◌, ◌-◌, ◌<◌, ◌≤◌, List, [], ◌∷◌, ◌++◌, length, take, drop, Result, Ok, Err, refl, sym, ◌∙◌, ap, subst, arith, append_assoc, length-append, length-drop}
+use Rattle.std.proofs.Common.{min, ℕ, ◌≡◌, ◌^◌, ◌+◌, ◌-◌, ◌<◌, ◌≤◌, List, [], ◌∷◌, ◌++◌, length, take, drop, Result, Ok, Err, refl, sym, ◌∙◌, ap, subst, arith, append_assoc, length-append, length-drop, lit≤}
 use Rattle.std.specs.List.{AllByRecursion}
-use Rattle.std.proofs.lemmas.List.{take-take, length-take-le, take_at, drop_at, append-nil}
+use Rattle.std.proofs.lemmas.List.{take-take, take_min, length-take-le, take_at, drop_at, append-nil}
 use Rattle.samza_model.specs.declared.messages.Record.{Record}
 use Rattle.samza_model.specs.Files.{Image}
 use Rattle.samza_model.specs.Frames.{frame_bytes}
@@ -16,7 +16,6 @@ use Rattle.topic_log.proofs.Spelling.{spelled-append, joined-append, spelled-pus
 use Rattle.samza_model.specs.Limits.{IsFrameable}
 use Rattle.log_frame.specs.Reading.{frame_at}
 use Rattle.log_frame.proofs.Laws.{frame_again}
-use Rattle.topic_log.proofs.Headers.{header_view}
 
 -- a frame that is there isn't refused, and its size is within the room
 module _ (bytes : List ℕ) (records : List Record) (rest : List ℕ) (fits : IsFrameable records) (split : bytes ≡ frame_bytes records ++ rest) where
@@ -31,13 +30,20 @@ module _ (file : List ℕ) (at room : ℕ) (inside : at + room ≤ length file) 
   pub room_is : room ≡ length (take room (drop at file))
   room_is = sym (length-take-le room (drop at file) (omega (arith, length-drop at file, inside)))
 
-  pub header_is : (header : List ℕ) (n : ℕ) → n ≡ min room 8 → header ≡ take n (drop at file) → header ≡ take 8 (take room (drop at file))
-  header_is header n n_is is =
+  pub header_is : (header front : List ℕ) (n : ℕ) → n ≡ min room 16384 → front ≡ take n (drop at file) → header ≡ take 8 front → header ≡ take 8 (take room (drop at file))
+  header_is header front n n_is is cut =
       let le : n ≤ room = omega (arith, n_is) in
-      header_view (take room (drop at file)) header room n room_is n_is (is ∙ sym (take-take n room (drop at file) le))
+      let whole : List ℕ = take room (drop at file) in
+      let same : n ≡ min 16384 (length whole) = omega (arith, room_is, n_is) in
+      let front_is : front ≡ take 16384 whole = is ∙ sym (take-take n room (drop at file) le) ∙ ap (λ (k : ℕ). take k whole) same ∙ take_min 16384 whole in
+      cut ∙ ap (take 8) front_is ∙ take-take 8 16384 whole (lit≤ tt)
 
   pub frame_is : (n : ℕ) (view : List ℕ) → n ≤ room → view ≡ take n (drop at file) → frame_at (take n (take room (drop at file))) ≡ frame_at (take room (drop at file)) → frame_at view ≡ Ok (records, length (frame_bytes records))
   frame_is n view le is same = ap frame_at (is ∙ sym (take-take n room (drop at file) le)) ∙ same ∙ whole_read (take room (drop at file)) records rest fits split
+
+-- bytes of a file that are at hand, and more of them than are looked at
+pub front_view : (file bytes view : List ℕ) (at len : ℕ) → bytes ≡ take (length bytes) (drop at file) → len ≤ length bytes → view ≡ take len bytes → view ≡ take len (drop at file)
+front_view file bytes view at len shows le is = is ∙ ap (take len) shows ∙ take-take len (length bytes) (drop at file) le
 
 -- the frame at a place
 pub record NextFrame (file : List ℕ) (frames before : List (List Record)) (at room : ℕ) : Type 0 where
