@@ -46,20 +46,31 @@ impl Changelog {
         file: u32,
     ) -> Result<Changelog, LogFault>
         // The changelog has the frames that the file had, in every image.
-        ensures opened { IfOk result (λ log. D.tells → (frames : List (List Record)) × HasFrames (D.reads disk.old file) frames × IsOpen (D.reads disk.new) (D.images disk.new) log frames) }
-        ensures left { IfOk result (λ log. D.tells → IsLeft (D.reads disk.old file) (D.reads disk.new file) (size_of log)) }
+        ensures opened { IfOk result (λ log. D.tells → (frames : List (List Record))
+            × HasFrames (D.reads disk.old file) frames
+            × IsOpen (D.reads disk.new) (D.images disk.new) log frames) }
+        ensures left { IfOk result (λ log. D.tells
+            → IsLeft (D.reads disk.old file) (D.reads disk.new file) (size_of log)) }
         ensures file { IfOk result (λ log. file_of log ≡ file) }
         ensures sound { IfOk result (λ log. is_broken log ≡ false) }
-        ensures elsewhere { OnOk result (D.tells → SameElsewhere file (D.reads disk.old) (D.reads disk.new)) }
+        ensures elsewhere { OnOk result (D.tells
+            → SameElsewhere file (D.reads disk.old) (D.reads disk.new)) }
 
         // A crash at any moment leaves the frames that the image had. After a refusal, but for `Device`, nothing was written.
-        ensures any_moment { D.tells → LeavesOnly D.call_number D.images D.images_since disk.old disk.new (KeepsFrames file) }
-        ensures untouched { IfErr result (λ e. e ≢ LogFault.Device → D.tells → (D.reads disk.new ≡ D.reads disk.old) × LeavesOnly D.call_number D.images D.images_since disk.old disk.new Same) }
-        ensures others { D.tells → (log : LogValue) (frames : List (List Record)) → file_of log ≢ file
-            → IsOpen (D.reads disk.old) (D.images disk.old) log frames → IsOpen (D.reads disk.new) (D.images disk.new) log frames }
+        ensures any_moment { D.tells
+            → LeavesOnly D.call_number D.images D.images_since disk.old disk.new
+            (KeepsFrames file) }
+        ensures untouched { IfErr result (λ e. e ≢ LogFault.Device → D.tells
+            → (D.reads disk.new ≡ D.reads disk.old)
+            × LeavesOnly D.call_number D.images D.images_since disk.old disk.new Same) }
+        ensures others { D.tells → (log : LogValue) (frames : List (List Record))
+            → file_of log ≢ file → IsOpen (D.reads disk.old) (D.images disk.old) log frames
+            → IsOpen (D.reads disk.new) (D.images disk.new) log frames }
 
-        ensures damaged { IfErr result (λ e. (at : ℕ) → e ≡ LogFault.Damaged at → D.tells → IsDamagedAt (D.reads disk.old file) at × HasNoLog (D.reads disk.old file)) }
-        ensures device { IfErr result (λ e. e ≡ LogFault.Device → Rose (D.fault_count disk.old) (D.fault_count disk.new)) }
+        ensures damaged { IfErr result (λ e. (at : ℕ) → e ≡ LogFault.Damaged at → D.tells
+            → IsDamagedAt (D.reads disk.old file) at × HasNoLog (D.reads disk.old file)) }
+        ensures device { IfErr result (λ e. e ≡ LogFault.Device
+            → Rose (D.fault_count disk.old) (D.fault_count disk.new)) }
         ensures never { IfErr result (λ e. (e ≢ LogFault.Limit) × (e ≢ LogFault.Broken)) }
         ensures later { D.fault_count disk.old ≤ D.fault_count disk.new }
         ensures name { D.name disk.new ≡ D.name disk.old }
@@ -103,24 +114,32 @@ impl Changelog {
         disk: &mut D,
         count: u64,
     ) -> Result<(Table, Vec<Bin>), LogFault>
-        requires opened { D.tells → is_broken self.old ≡ false → (frames : List (List Record)) × IsOpen (D.reads disk.old) (D.images disk.old) self.old frames }
+        requires opened { D.tells → is_broken self.old ≡ false → (frames : List (List Record))
+            × IsOpen (D.reads disk.old) (D.images disk.old) self.old frames }
         requires within { count ≤ count_of self.old }
 
-        ensures folded { IfOk result (λ r. D.tells → (frames : List (List Record)) → IsOpen (D.reads disk.old) (D.images disk.old) self.old frames → IsFold count (joined frames) r.0 r.1.items) }
+        ensures folded { IfOk result (λ r. D.tells → (frames : List (List Record))
+            → IsOpen (D.reads disk.old) (D.images disk.old) self.old frames
+            → IsFold count (joined frames) r.0 r.1.items) }
         ensures limits { IfOk result (λ r. AreWithinLimits r.0) }
         ensures short { IfOk result (λ r. AllByRecursion (λ key. length key ≤ 1024) r.1.items) }
 
         // Nothing but reads was called: at each moment the images are those before.
-        ensures rests { D.tells → Rests D.reads D.call_number D.images D.images_since disk.old disk.new }
+        ensures rests { D.tells
+            → Rests D.reads D.call_number D.images D.images_since disk.old disk.new }
         ensures reads { D.tells → D.reads disk.new ≡ D.reads disk.old }
-        ensures others { D.tells → (l : LogValue) (frames : List (List Record)) → IsOpen (D.reads disk.old) (D.images disk.old) l frames → IsOpen (D.reads disk.new) (D.images disk.new) l frames }
+        ensures others { D.tells → (l : LogValue) (frames : List (List Record))
+            → IsOpen (D.reads disk.old) (D.images disk.old) l frames
+            → IsOpen (D.reads disk.new) (D.images disk.new) l frames }
 
         ensures ok { OnOk result ((is_broken self.old ≡ false) × (self.new ≡ self.old)) }
         ensures broken { IfErr result (λ e. (e ≡ LogFault.Broken) ↔ (is_broken self.old ≡ true)) }
         ensures sane { IfErr result (λ e. D.tells → (at : ℕ) → e ≢ LogFault.Damaged at) }
-        ensures device { IfErr result (λ e. e ≡ LogFault.Device → Rose (D.fault_count disk.old) (D.fault_count disk.new)) }
+        ensures device { IfErr result (λ e. e ≡ LogFault.Device
+            → Rose (D.fault_count disk.old) (D.fault_count disk.new)) }
         ensures never { IfErr result (λ e. e ≢ LogFault.Limit) }
-        ensures breaks { IfErr result (λ e. (is_broken self.new ≡ true) ↔ ((e ≡ LogFault.Broken) ⊎ (e ≡ LogFault.Device))) }
+        ensures breaks { IfErr result (λ e. (is_broken self.new ≡ true)
+            ↔ ((e ≡ LogFault.Broken) ⊎ (e ≡ LogFault.Device))) }
         ensures kept { IfErr result (λ e. e ≢ LogFault.Device → self.new ≡ self.old) }
         ensures extent { OnErr result (KeepsExtent self.old self.new) }
         ensures file { file_of self.new ≡ file_of self.old }
@@ -149,34 +168,50 @@ impl Changelog {
     /// `Limit` comes before any device call where the file would pass 2^40 bytes by these frames, and never for an empty
     /// list. After `Device` the changelog is broken, and answers `Broken` from then on.
     pub fn write<D: Disk>(&mut self, disk: &mut D, frames: &[Frame]) -> Result<u64, LogFault>
-        requires { D.tells → is_broken self.old ≡ false → (before : List (List Record)) × IsOpen (D.reads disk.old) (D.images disk.old) self.old before }
+        requires { D.tells → is_broken self.old ≡ false → (before : List (List Record))
+            × IsOpen (D.reads disk.old) (D.images disk.old) self.old before }
 
         ensures count { IfOk result (λ n. n ≡ count_of self.new) }
         ensures counted { IfOk result (λ n. n ≡ count_of self.old + record_count frames.now) }
         ensures file { file_of self.new ≡ file_of self.old }
 
         // The changelog has the frames before, followed by these, in every image.
-        ensures appended { OnOk result (D.tells → (before lists : List (List Record)) → IsOpen (D.reads disk.old) (D.images disk.old) self.old before → AreFrames frames.now lists
+        ensures appended { OnOk result (D.tells → (before lists : List (List Record))
+            → IsOpen (D.reads disk.old) (D.images disk.old) self.old before
+            → AreFrames frames.now lists
             → IsOpen (D.reads disk.new) (D.images disk.new) self.new (before ++ lists)) }
-        ensures grown { OnOk result (size_of self.new ≡ size_of self.old + length (closed_frames frames.now)) }
+        ensures grown { OnOk result
+            (size_of self.new ≡ size_of self.old + length (closed_frames frames.now)) }
         ensures idle { frames.now ≡ [] → disk.new ≡ disk.old }
-        ensures elsewhere { OnOk result (D.tells → SameElsewhere (file_of self.old) (D.reads disk.old) (D.reads disk.new)) }
+        ensures elsewhere { OnOk result (D.tells
+            → SameElsewhere (file_of self.old) (D.reads disk.old) (D.reads disk.new)) }
 
         // A crash at any moment leaves the frames before, or those followed by all of these.
-        ensures any_moment { D.tells → (before lists : List (List Record)) → IsOpen (D.reads disk.old) (D.images disk.old) self.old before → AreFrames frames.now lists
-            → LeavesOnly D.call_number D.images D.images_since disk.old disk.new (Appends (file_of self.old) before lists) }
-        ensures others { D.tells → (log : LogValue) (frames : List (List Record)) → file_of log ≢ file_of self.old
-            → IsOpen (D.reads disk.old) (D.images disk.old) log frames → IsOpen (D.reads disk.new) (D.images disk.new) log frames }
+        ensures any_moment { D.tells → (before lists : List (List Record))
+            → IsOpen (D.reads disk.old) (D.images disk.old) self.old before
+            → AreFrames frames.now lists
+            → LeavesOnly D.call_number D.images D.images_since disk.old disk.new
+            (Appends (file_of self.old) before lists) }
+        ensures others { D.tells → (log : LogValue) (frames : List (List Record))
+            → file_of log ≢ file_of self.old
+            → IsOpen (D.reads disk.old) (D.images disk.old) log frames
+            → IsOpen (D.reads disk.new) (D.images disk.new) log frames }
 
-        ensures ok { OnOk result ((is_broken self.old ≡ false) × HasRoom (size_of self.old) frames.now) }
+        ensures ok { OnOk result ((is_broken self.old ≡ false)
+            × HasRoom (size_of self.old) frames.now) }
         ensures broken { IfErr result (λ e. (e ≡ LogFault.Broken) ↔ (is_broken self.old ≡ true)) }
-        ensures limit { IfErr result (λ e. (e ≡ LogFault.Limit) ↔ ((is_broken self.old ≡ false) × LacksRoom (size_of self.old) frames.now)) }
-        ensures device { IfErr result (λ e. e ≡ LogFault.Device → Rose (D.fault_count disk.old) (D.fault_count disk.new)) }
-        ensures never { IfErr result (λ e. ((at : ℕ) → e ≢ LogFault.Damaged at) × (e ≢ LogFault.NoMemory)) }
+        ensures limit { IfErr result (λ e. (e ≡ LogFault.Limit)
+            ↔ ((is_broken self.old ≡ false) × LacksRoom (size_of self.old) frames.now)) }
+        ensures device { IfErr result (λ e. e ≡ LogFault.Device
+            → Rose (D.fault_count disk.old) (D.fault_count disk.new)) }
+        ensures never { IfErr result (λ e. ((at : ℕ) → e ≢ LogFault.Damaged at)
+            × (e ≢ LogFault.NoMemory)) }
 
         ensures sound { OnOk result (is_broken self.new ≡ false) }
-        ensures breaks { IfErr result (λ e. (is_broken self.new ≡ true) ↔ ((e ≡ LogFault.Broken) ⊎ (e ≡ LogFault.Device))) }
-        ensures refused { IfErr result (λ e. e ≢ LogFault.Device → (self.new ≡ self.old) × (disk.new ≡ disk.old)) }
+        ensures breaks { IfErr result (λ e. (is_broken self.new ≡ true)
+            ↔ ((e ≡ LogFault.Broken) ⊎ (e ≡ LogFault.Device))) }
+        ensures refused { IfErr result (λ e. e ≢ LogFault.Device → (self.new ≡ self.old)
+            × (disk.new ≡ disk.old)) }
         ensures extent { OnErr result (KeepsExtent self.old self.new) }
         ensures later { D.fault_count disk.old ≤ D.fault_count disk.new }
         ensures name { D.name disk.new ≡ D.name disk.old }

@@ -35,7 +35,8 @@ impl Fold {
 
     /// Reads the records, one after another. They are moved, not copied.
     pub(crate) fn read_all(&mut self, records: Vec<Record>) -> Result<(), NoMemory>
-        ensures { OnOk result ((count : ℕ) (before : List RecordValue) → HasRead count before self.old → HasRead count (before ++ records.items) self.new) }
+        ensures { OnOk result ((count : ℕ) (before : List RecordValue)
+            → HasRead count before self.old → HasRead count (before ++ records.items) self.new) }
     {
         for next in records {
             match self.read(next) {
@@ -48,7 +49,8 @@ impl Fold {
 
     /// Reads one record more.
     fn read(&mut self, next: Record) -> Result<(), NoMemory>
-        ensures { OnOk result ((count : ℕ) (before : List RecordValue) → HasRead count before self.old → HasRead count (before ++ next ∷ []) self.new) }
+        ensures { OnOk result ((count : ℕ) (before : List RecordValue)
+            → HasRead count before self.old → HasRead count (before ++ next ∷ []) self.new) }
     {
         let Record { key, value } = next;
         if self.left == 0 {
@@ -61,7 +63,8 @@ impl Fold {
 
     /// The map, and the keys in the order of their bytes.
     pub(crate) fn into_parts(self, alloc: Global) -> Result<(Table, Vec<Bin>), NoMemory>
-        ensures { IfOk result (λ r. (count : ℕ) (records : List RecordValue) → HasRead count records self → IsFold count records r.0 r.1.items) }
+        ensures { IfOk result (λ r. (count : ℕ) (records : List RecordValue)
+            → HasRead count records self → IsFold count records r.0 r.1.items) }
     {
         let Fold { table, touched, .. } = self;
         let keys = in_order(alloc, touched)?;

@@ -16,8 +16,12 @@ use std::alloc::Global;
 /// of memory.
 pub fn revert(alloc: Global, table: &Table, touched: &[Bin]) -> Result<Vec<Record>, NoMemory>
     ensures exact { IfOk result (λ records. records.items ≡ records_of table.now touched.now) }
-    ensures reverts { IfOk result (λ records. (count : ℕ) (logged : List RecordValue) → table.now ≡ foldrec (take count logged) → touched.now ≡ keys_of (drop count logged) → replayed (foldrec logged) records.items ≡ table.now) }
-    ensures limits { AreWithinLimits table.now → AllByRecursion (λ key. length key ≤ 1024) touched.now → IfOk result (λ records. AllByRecursion IsWithinLimits records.items) }
+    ensures reverts { IfOk result (λ records. (count : ℕ) (logged : List RecordValue)
+        → table.now ≡ foldrec (take count logged) → touched.now ≡ keys_of (drop count logged)
+        → replayed (foldrec logged) records.items ≡ table.now) }
+    ensures limits { AreWithinLimits table.now
+        → AllByRecursion (λ key. length key ≤ 1024) touched.now
+        → IfOk result (λ records. AllByRecursion IsWithinLimits records.items) }
 {
     let mut records = Vec::with_capacity(alloc, touched.len())?;
     for key in touched {

@@ -96,7 +96,8 @@ pub fn decode_checkpoint(alloc: Global, r: &Record) -> Result<Checkpoint, Checkp
 
     // A record stands for one checkpoint.
     ensures only { (k : CheckpointValue) → StandsFor r.now k → IfOk result (λ c. c ≡ k) }
-    ensures bad { IfErr result (λ e. e ≡ CheckpointFault.Bad → (k : CheckpointValue) → StandsFor r.now k → ⊥) }
+    ensures bad { IfErr result (λ e. e ≡ CheckpointFault.Bad → (k : CheckpointValue)
+        → StandsFor r.now k → ⊥) }
 {
     let c = checkpoint_of(alloc, r)?;
     if !is_well_formed(&c) {

@@ -30,7 +30,8 @@ fn put_input(out: &mut Vec<u8>, input: &InputMark) -> Result<(), AllocError>
 
 fn put_inputs(out: &mut Vec<u8>, inputs: &[InputMark]) -> Result<(), AllocError>
     requires { AllByRecursion FitsInput inputs.now }
-    ensures spelled { OnOk result (out.new.items ≡ out.old.items ++ flat_map input_bytes inputs.now) }
+    ensures spelled { OnOk result (out.new.items ≡ out.old.items
+        ++ flat_map input_bytes inputs.now) }
     ensures range { OnOk result (AllByRecursion (λ i. i.next < 2 ^ 64) inputs.now) }
 {
     for input in inputs {
@@ -51,7 +52,8 @@ fn put_store(out: &mut Vec<u8>, store: &StoreMark) -> Result<(), AllocError>
 
 fn put_stores(out: &mut Vec<u8>, stores: &[StoreMark]) -> Result<(), AllocError>
     requires { AllByRecursion (λ s. is_system s.name ≡ true) stores.now }
-    ensures spelled { OnOk result (out.new.items ≡ out.old.items ++ flat_map store_bytes stores.now) }
+    ensures spelled { OnOk result (out.new.items ≡ out.old.items
+        ++ flat_map store_bytes stores.now) }
     ensures range { OnOk result (AllByRecursion (λ s. s.count < 2 ^ 64) stores.now) }
 {
     for store in stores {

@@ -22,7 +22,8 @@ fn checkpoint_in(
     count: u64,
 ) -> Result<Checkpoint, CheckpointFault>
     ensures found { IfOk result (λ k. IsAlone records.now count k) }
-    ensures bad { IfErr result (λ e. e ≡ CheckpointFault.Bad → (k : CheckpointValue) → IsAlone records.now count k → ⊥) }
+    ensures bad { IfErr result (λ e. e ≡ CheckpointFault.Bad → (k : CheckpointValue)
+        → IsAlone records.now count k → ⊥) }
 {
     let [r] = records else {
         return Err(CheckpointFault::Bad);
@@ -40,7 +41,8 @@ fn checkpoint_in(
 
 /// The place before the log's last frame, or before the first where it has none.
 fn end_of(log: &Log) -> Place
-    ensures end { (frames : List (List RecordValue)) → HasExtent log.now frames → IsEnd frames result }
+    ensures end { (frames : List (List RecordValue)) → HasExtent log.now frames
+        → IsEnd frames result }
     ensures empty { size_of log.now ≤ result.byte + 1 → count_of log.now ≡ 0 }
 {
     match log.last() {
@@ -59,26 +61,35 @@ pub fn last<D: Disk>(
     log: &mut Log,
     disk: &mut D,
 ) -> Result<Option<Checkpoint>, LogFault>
-    requires opened { D.tells → is_broken log.old ≡ false → (frames : List (List RecordValue)) × IsOpen (D.reads disk.old) (D.images disk.old) log.old frames }
+    requires opened { D.tells → is_broken log.old ≡ false → (frames : List (List RecordValue))
+        × IsOpen (D.reads disk.old) (D.images disk.old) log.old frames }
 
-    ensures last { IfOk result (λ m. D.tells → (frames : List (List RecordValue)) → IsOpen (D.reads disk.old) (D.images disk.old) log.old frames → EndsAs frames m) }
+    ensures last { IfOk result (λ m. D.tells → (frames : List (List RecordValue))
+        → IsOpen (D.reads disk.old) (D.images disk.old) log.old frames → EndsAs frames m) }
     // On every disk the checkpoint's number is the log's number of records, and none is answered only where it has none.
     ensures counted { IfOk result (λ m. id_of m ≡ count_of log.old) }
-    ensures damaged { IfErr result (λ e. (at : ℕ) → e ≡ LogFault.Damaged at → D.tells → (frames : List (List RecordValue)) → IsOpen (D.reads disk.old) (D.images disk.old) log.old frames → IsBadEnd frames at) }
+    ensures damaged { IfErr result (λ e. (at : ℕ) → e ≡ LogFault.Damaged at → D.tells
+        → (frames : List (List RecordValue))
+        → IsOpen (D.reads disk.old) (D.images disk.old) log.old frames → IsBadEnd frames at) }
 
     ensures ok { OnOk result ((is_broken log.old ≡ false) × (log.new ≡ log.old)) }
     ensures broken { IfErr result (λ e. (e ≡ LogFault.Broken) ↔ (is_broken log.old ≡ true)) }
-    ensures breaks { IfErr result (λ e. (is_broken log.new ≡ true) ↔ ((e ≡ LogFault.Broken) ⊎ (e ≡ LogFault.Device))) }
+    ensures breaks { IfErr result (λ e. (is_broken log.new ≡ true)
+        ↔ ((e ≡ LogFault.Broken) ⊎ (e ≡ LogFault.Device))) }
     ensures kept { IfErr result (λ e. e ≢ LogFault.Device → log.new ≡ log.old) }
     ensures extent { OnErr result (KeepsExtent log.old log.new) }
     ensures file { file_of log.new ≡ file_of log.old }
     // Nothing but reads was called: at each moment the images are those before.
-    ensures rests { D.tells → Rests D.reads D.call_number D.images D.images_since disk.old disk.new }
+    ensures rests { D.tells
+        → Rests D.reads D.call_number D.images D.images_since disk.old disk.new }
     ensures reads { D.tells → D.reads disk.new ≡ D.reads disk.old }
-    ensures others { D.tells → (l : LogValue) (frames : List (List RecordValue)) → IsOpen (D.reads disk.old) (D.images disk.old) l frames → IsOpen (D.reads disk.new) (D.images disk.new) l frames }
+    ensures others { D.tells → (l : LogValue) (frames : List (List RecordValue))
+        → IsOpen (D.reads disk.old) (D.images disk.old) l frames
+        → IsOpen (D.reads disk.new) (D.images disk.new) l frames }
 
     ensures never_limit { IfErr result (λ e. e ≢ LogFault.Limit) }
-    ensures device { IfErr result (λ e. e ≡ LogFault.Device → Rose (D.fault_count disk.old) (D.fault_count disk.new)) }
+    ensures device { IfErr result (λ e. e ≡ LogFault.Device
+        → Rose (D.fault_count disk.old) (D.fault_count disk.new)) }
     ensures later { D.fault_count disk.old ≤ D.fault_count disk.new }
     ensures name { D.name disk.new ≡ D.name disk.old }
 {

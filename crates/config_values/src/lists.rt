@@ -17,7 +17,8 @@ use std::collections::BTreeSet;
 
 /// The first entry of a list, trimmed, and the list behind its comma, where it has one.
 fn first_entry(text: &[u16]) -> (&[u16], Option<&[u16]>)
-    ensures entries { MatchOption result.1 (entries_of text.now ≡ kept result.0.now) (λ rest. entries_of text.now ≡ kept result.0.now ++ entries_of rest.now) }
+    ensures entries { MatchOption result.1 (entries_of text.now ≡ kept result.0.now)
+        (λ rest. entries_of text.now ≡ kept result.0.now ++ entries_of rest.now) }
     ensures shorter { IfSome result.1 (λ rest. length rest.now < length text.now) }
 {
     let comma = place_of(44, text);

@@ -24,7 +24,9 @@ pub(crate) fn failing_of(
     arms: &[Slot<Failing>],
     name: &DiskName,
 ) -> Result<Failing, NoMemory>
-    ensures { IfOk result (λ f. (number : ℕ) → fails_at f.fail_at.items f.stop_after number ≡ said_fails (held_in (slot_at arms.now name.now)) number) }
+    ensures { IfOk result (λ f. (number : ℕ)
+        → fails_at f.fail_at.items f.stop_after number
+        ≡ said_fails (held_in (slot_at arms.now name.now)) number) }
 {
     match held_of(arms, name) {
         Some(failing) => Ok(Failing {
@@ -41,7 +43,8 @@ pub(crate) fn failing_of(
 /// Forgets what was said of a name.
 pub(crate) fn forget_arm(arms: &mut Vec<Slot<Failing>>, name: &DiskName)
     ensures forgotten { held_in (slot_at arms.new.items name.now) ≡ None }
-    ensures elsewhere { (n : DiskNameValue) → n ≢ name.now → held_in (slot_at arms.new.items n) ≡ held_in (slot_at arms.old.items n) }
+    ensures elsewhere { (n : DiskNameValue) → n ≢ name.now
+        → held_in (slot_at arms.new.items n) ≡ held_in (slot_at arms.old.items n) }
 {
     let _failing = take_held(arms.as_mut_slice(), name);
 }
@@ -54,8 +57,10 @@ pub(crate) fn put_arm(
     failing: Failing,
 ) -> Result<(), NoMemory>
     ensures said { OnOk result (held_in (slot_at arms.new.items name.now) ≡ Some failing) }
-    ensures refused { OnErr result (held_in (slot_at arms.new.items name.now) ≡ held_in (slot_at arms.old.items name.now)) }
-    ensures elsewhere { (n : DiskNameValue) → n ≢ name.now → held_in (slot_at arms.new.items n) ≡ held_in (slot_at arms.old.items n) }
+    ensures refused { OnErr result (held_in (slot_at arms.new.items name.now)
+        ≡ held_in (slot_at arms.old.items name.now)) }
+    ensures elsewhere { (n : DiskNameValue) → n ≢ name.now
+        → held_in (slot_at arms.new.items n) ≡ held_in (slot_at arms.old.items n) }
 {
     if has_slot(arms.as_slice(), name) {
         put_held(arms.as_mut_slice(), name, failing);

@@ -46,7 +46,11 @@ impl Cells {
     /// Writes over what is there, and behind it.
     pub(crate) fn put(&mut self, at: usize, bytes: &[u8])
         requires { at + length bytes.now ≤ self.old.room }
-        ensures { self.new ≡ record { bytes = put_at at bytes.now self.old.bytes; room = self.old.room } }
+        ensures { self.new ≡ record {
+          bytes = put_at at bytes.now self.old.bytes;
+          room
+              = self.old.room;
+        } }
     {
         put_into(&mut self.bytes, at, bytes);
     }
@@ -61,7 +65,11 @@ impl Cells {
     /// Writes this value over so many bytes from a place on, and behind what is there.
     pub(crate) fn fill(&mut self, from: usize, count: usize, value: u8)
         requires { from + count ≤ self.old.room }
-        ensures { self.new ≡ record { bytes = filled from count value self.old.bytes; room = self.old.room } }
+        ensures { self.new ≡ record {
+          bytes = filled from count value self.old.bytes;
+          room
+              = self.old.room;
+        } }
     {
         let _ = &self.room;
         pad(&mut self.bytes, from + count, value);
@@ -71,7 +79,11 @@ impl Cells {
     /// Writes over what is there, and behind it, with zeros in a gap.
     pub(crate) fn put_padded(&mut self, at: usize, bytes: &[u8])
         requires { at + length bytes.now ≤ self.old.room }
-        ensures { self.new ≡ record { bytes = put_padded at bytes.now self.old.bytes; room = self.old.room } }
+        ensures { self.new ≡ record {
+          bytes = put_padded at bytes.now self.old.bytes;
+          room
+              = self.old.room;
+        } }
     {
         if bytes.is_empty() {
             return;

@@ -12,7 +12,11 @@ use crate::traces::{Entry, cut_in, place_in, put_in};
 /// A write, as far as a crash leaves it.
 fn tear_write(cells: &mut Cells, pick: Pick, at: usize, bytes: &[u8])
     requires { at + length bytes.now ≤ cells.old.room }
-    ensures { cells.new ≡ record { bytes = torn_write pick at bytes.now cells.old.bytes; room = cells.old.room } }
+    ensures { cells.new ≡ record {
+      bytes = torn_write pick at bytes.now cells.old.bytes;
+      room
+          = cells.old.room;
+    } }
 {
     match pick {
         Pick::Old => {}
@@ -27,7 +31,11 @@ fn tear_write(cells: &mut Cells, pick: Pick, at: usize, bytes: &[u8])
 
 /// A cut, as far as a crash leaves it.
 fn tear_cut(cells: &mut Cells, pick: Pick, size: usize)
-    ensures { cells.new ≡ record { bytes = torn_cut pick size cells.old.bytes; room = cells.old.room } }
+    ensures { cells.new ≡ record {
+      bytes = torn_cut pick size cells.old.bytes;
+      room
+          = cells.old.room;
+    } }
 {
     match pick {
         Pick::Old | Pick::Cut(_) => {}
@@ -43,14 +51,24 @@ fn tear_cut(cells: &mut Cells, pick: Pick, size: usize)
 fn tear_write_in(files: &mut Vec<Cells>, file: usize, pick: Pick, at: usize, bytes: &[u8])
     requires there { file < length files.old.items }
     requires reach { at + length bytes.now ≤ (get_or files.old.items file no_bytes).room }
-    ensures { files.new.items ≡ set files.old.items file (record { bytes = torn_write pick at bytes.now (bytes_at files.old.items file); room = (get_or files.old.items file no_bytes).room }) }
+    ensures { files.new.items ≡ set files.old.items file
+        (record {
+          bytes = torn_write pick at bytes.now (bytes_at files.old.items file);
+          room
+              = (get_or files.old.items file no_bytes).room;
+        }) }
 {
     tear_write(&mut files[file], pick, at, bytes);
 }
 
 /// A cut of one of the files, if it is there, as far as a crash leaves it.
 fn tear_cut_in(files: &mut Vec<Cells>, file: usize, pick: Pick, size: usize)
-    ensures { files.new.items ≡ set files.old.items file (record { bytes = torn_cut pick size (bytes_at files.old.items file); room = (get_or files.old.items file no_bytes).room }) }
+    ensures { files.new.items ≡ set files.old.items file
+        (record {
+          bytes = torn_cut pick size (bytes_at files.old.items file);
+          room
+              = (get_or files.old.items file no_bytes).room;
+        }) }
 {
     if file < files.len() {
         tear_cut(&mut files[file], pick, size);
@@ -60,7 +78,12 @@ fn tear_cut_in(files: &mut Vec<Cells>, file: usize, pick: Pick, size: usize)
 /// Puts the bytes of one of the other files in the place of this one's, if it is there.
 fn copy_in(files: &mut Vec<Cells>, others: &[Cells], file: usize)
     requires { SameRooms files.old.items others.now }
-    ensures { files.new.items ≡ set files.old.items file (record { bytes = bytes_at others.now file; room = (get_or files.old.items file no_bytes).room }) }
+    ensures { files.new.items ≡ set files.old.items file
+        (record {
+          bytes = bytes_at others.now file;
+          room
+              = (get_or files.old.items file no_bytes).room;
+        }) }
 {
     if file < others.len() {
         place_in(files, file, others[file].bytes());
@@ -83,8 +106,11 @@ fn redo(torn: &mut Vec<Cells>, files: &mut Vec<Cells>, entry: Entry, written: &[
     requires rooms { SameRooms torn.old.items files.old.items }
     requires fits { FitsIn files.old.items entry }
     requires used { used_by entry ≤ length written.now }
-    ensures read { (f : ℕ) → bytes_at files.new.items f ≡ read_after written.now f entry (bytes_at files.old.items f) }
-    ensures torn { (f : ℕ) → bytes_at torn.new.items f ≡ torn_after pick written.now f entry (bytes_at files.old.items f) (bytes_at torn.old.items f) }
+    ensures read { (f : ℕ)
+        → bytes_at files.new.items f ≡ read_after written.now f entry (bytes_at files.old.items f) }
+    ensures torn { (f : ℕ)
+        → bytes_at torn.new.items f ≡ torn_after pick written.now f entry
+        (bytes_at files.old.items f) (bytes_at torn.old.items f) }
     ensures file_rooms { SameRooms files.old.items files.new.items }
     ensures torn_rooms { SameRooms torn.old.items torn.new.items }
 {
@@ -120,7 +146,9 @@ pub(crate) fn redo_all(
     requires rewound { (f : ℕ) → bytes_at files.old.items f ≡ bytes_at torn.old.items f }
     requires fits { (k : ℕ) → FitsIn files.old.items (get_or noted.now k Quiet) }
     requires used { (k : ℕ) → used_by (get_or noted.now k Quiet) ≤ length written.now }
-    ensures torn { (f : ℕ) → IsCrashOf pick (state_of torn.old.items noted.now written.now f) (bytes_at torn.new.items f) }
+    ensures torn { (f : ℕ)
+        → IsCrashOf pick (state_of torn.old.items noted.now written.now f)
+        (bytes_at torn.new.items f) }
     ensures file_rooms { SameRooms files.old.items files.new.items }
     ensures torn_rooms { SameRooms torn.old.items torn.new.items }
 {

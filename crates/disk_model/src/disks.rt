@@ -40,37 +40,49 @@ pub trait Disk: Send + Drop {
         ensures there { tells → file_count self.new ≡ file_count self.old }
         ensures crash { tells → Keeps (images self.old) (images self.new) }
         ensures none_lost { tells → Keeps (images self.new) (images self.old) }
-        ensures time { tells → Joins (call_number self.old) (images_since self.old) (images_since self.new) (images self.new) }
+        ensures time { tells → Joins (call_number self.old) (images_since self.old)
+            (images_since self.new) (images self.new) }
         ensures called { call_number self.new ≡ next_number (call_number self.old) }
-        ensures cause { HasCause (call_number self.old) (fault_count self.old) (fault_count self.new) result }
+        ensures cause { HasCause (call_number self.old) (fault_count self.old)
+            (fault_count self.new) result }
         ensures name { name self.new ≡ name self.old };
 
     /// Fills the buffer from this place of the file.
     fn read_at(&mut self, file: u32, at: u64, into: &mut [u8]) -> Result<(), DiskFault>
         requires { tells → at + length into.old ≤ length (reads self.old file) }
-        ensures bytes { OnOk result (tells → into.new ≡ take (length into.old) (drop at (reads self.old file))) }
+        ensures bytes { OnOk result (tells
+            → into.new ≡ take (length into.old) (drop at (reads self.old file))) }
         ensures reads { tells → reads self.new ≡ reads self.old }
         ensures there { tells → file_count self.new ≡ file_count self.old }
         ensures crash { tells → Keeps (images self.old) (images self.new) }
         ensures none_lost { tells → Keeps (images self.new) (images self.old) }
-        ensures time { tells → Joins (call_number self.old) (images_since self.old) (images_since self.new) (images self.new) }
+        ensures time { tells → Joins (call_number self.old) (images_since self.old)
+            (images_since self.new) (images self.new) }
         ensures called { call_number self.new ≡ next_number (call_number self.old) }
-        ensures cause { HasCause (call_number self.old) (fault_count self.old) (fault_count self.new) result }
+        ensures cause { HasCause (call_number self.old) (fault_count self.old)
+            (fault_count self.new) result }
         ensures name { name self.new ≡ name self.old };
 
     /// Writes over what is there, and past the end. Until a sync a crash may leave any bytes in the range, and any size
     /// between.
     fn write_at(&mut self, file: u32, at: u64, bytes: &[u8]) -> Result<(), DiskFault>
         requires { tells → at ≤ length (reads self.old file) }
-        ensures written { OnOk result (tells → Written file at bytes.now (reads self.old) (reads self.new)) }
+        ensures written { OnOk result (tells
+            → Written file at bytes.now (reads self.old) (reads self.new)) }
         ensures there { tells → MayMake file (file_count self.old) (file_count self.new) }
-        ensures made { OnOk result (tells → file_count self.new ≡ max (file_count self.old) (file + 1)) }
-        ensures unmade { tells → call_number self.old ≡ 2 ^ 64 - 1 → file_count self.new ≡ file_count self.old }
-        ensures crash { tells → Follows (TornWrite file at (length bytes.now)) (images self.old) (images self.new) }
-        ensures spent { tells → call_number self.old ≡ 2 ^ 64 - 1 → Stays (reads self.old) (reads self.new) (images self.old) (images self.new) }
-        ensures time { tells → Joins (call_number self.old) (images_since self.old) (images_since self.new) (images self.new) }
+        ensures made { OnOk result (tells
+            → file_count self.new ≡ max (file_count self.old) (file + 1)) }
+        ensures unmade { tells → call_number self.old ≡ 2 ^ 64 - 1
+            → file_count self.new ≡ file_count self.old }
+        ensures crash { tells
+            → Follows (TornWrite file at (length bytes.now)) (images self.old) (images self.new) }
+        ensures spent { tells → call_number self.old ≡ 2 ^ 64 - 1
+            → Stays (reads self.old) (reads self.new) (images self.old) (images self.new) }
+        ensures time { tells → Joins (call_number self.old) (images_since self.old)
+            (images_since self.new) (images self.new) }
         ensures called { call_number self.new ≡ next_number (call_number self.old) }
-        ensures cause { HasCause (call_number self.old) (fault_count self.old) (fault_count self.new) result }
+        ensures cause { HasCause (call_number self.old) (fault_count self.old)
+            (fault_count self.new) result }
         ensures name { name self.new ≡ name self.old };
 
     /// Cuts a file to a size. Until a sync a crash may leave any size between, with any bytes behind the new size.
@@ -79,10 +91,13 @@ pub trait Disk: Send + Drop {
         ensures cut { OnOk result (tells → Shortened file size (reads self.old) (reads self.new)) }
         ensures there { tells → file_count self.new ≡ file_count self.old }
         ensures crash { tells → Follows (TornCut file size) (images self.old) (images self.new) }
-        ensures spent { tells → call_number self.old ≡ 2 ^ 64 - 1 → Stays (reads self.old) (reads self.new) (images self.old) (images self.new) }
-        ensures time { tells → Joins (call_number self.old) (images_since self.old) (images_since self.new) (images self.new) }
+        ensures spent { tells → call_number self.old ≡ 2 ^ 64 - 1
+            → Stays (reads self.old) (reads self.new) (images self.old) (images self.new) }
+        ensures time { tells → Joins (call_number self.old) (images_since self.old)
+            (images_since self.new) (images self.new) }
         ensures called { call_number self.new ≡ next_number (call_number self.old) }
-        ensures cause { HasCause (call_number self.old) (fault_count self.old) (fault_count self.new) result }
+        ensures cause { HasCause (call_number self.old) (fault_count self.old)
+            (fault_count self.new) result }
         ensures name { name self.new ≡ name self.old };
 
     /// After it, a crash leaves of this file what a read gives.
@@ -92,9 +107,11 @@ pub trait Disk: Send + Drop {
         ensures there { tells → file_count self.new ≡ file_count self.old }
         ensures crash { tells → Keeps (images self.old) (images self.new) }
         ensures none_lost { OnErr result (tells → Keeps (images self.new) (images self.old)) }
-        ensures time { tells → Joins (call_number self.old) (images_since self.old) (images_since self.new) (images self.new) }
+        ensures time { tells → Joins (call_number self.old) (images_since self.old)
+            (images_since self.new) (images self.new) }
         ensures called { call_number self.new ≡ next_number (call_number self.old) }
-        ensures cause { HasCause (call_number self.old) (fault_count self.old) (fault_count self.new) result }
+        ensures cause { HasCause (call_number self.old) (fault_count self.old)
+            (fault_count self.new) result }
         ensures name { name self.new ≡ name self.old };
 
     /// The number of calls so far, but for `calls` and `faults`.

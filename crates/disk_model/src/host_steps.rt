@@ -40,7 +40,8 @@ pub(crate) fn stream_name(alloc: Global, system: &Bin, stream: &Bin) -> Result<D
 
 /// One more than the greatest file number of a disk, at most 2^32 - 1.
 pub(crate) fn count_of_files(slots: &[Slot<MemDisk>], name: &DiskName) -> u32
-    ensures { result ≡ min (number_in mem_file_count (held_in (slot_at slots.now name.now))) (2 ^ 32 - 1) }
+    ensures { result ≡ min (number_in mem_file_count (held_in (slot_at slots.now name.now)))
+        (2 ^ 32 - 1) }
 {
     match held_of(slots, name) {
         Some(disk) => disk.file_count().min(0xffff_ffff) as u32,
@@ -60,7 +61,8 @@ pub(crate) fn new_shelf(
     ensures name { IfOk result (λ s. shelf_name s ≡ name.now) }
     ensures file { IfOk result (λ s. shelf_file s ≡ file) }
     ensures fresh { IfOk result (λ s. shelf_faults s ≡ 0) }
-    ensures fails { IfOk result (λ s. (number : ℕ) → shelf_fails s number ≡ fails_at failing.fail_at.items failing.stop_after number) }
+    ensures fails { IfOk result (λ s. (number : ℕ)
+        → shelf_fails s number ≡ fails_at failing.fail_at.items failing.stop_after number) }
     ensures calls { IfOk result (λ s. shelf_calls s ≡ 0) }
 {
     let name = name.copy(alloc)?;
@@ -86,7 +88,9 @@ pub(crate) fn as_handle(disk: MemDisk, failing: Failing) -> MemDisk
     ensures files { mem_file_count result ≡ mem_file_count disk }
     ensures faults { mem_faults result ≡ 0 }
     ensures capacity { mem_capacity result ≡ mem_capacity disk }
-    ensures fails { (number : ℕ) → mem_fails result number ≡ fails_at failing.fail_at.items failing.stop_after (number - mem_calls disk) }
+    ensures fails { (number : ℕ)
+        → mem_fails result number ≡ fails_at failing.fail_at.items failing.stop_after
+        (number - mem_calls disk) }
 {
     let mut disk = disk;
     disk.begin_handle();
@@ -96,8 +100,10 @@ pub(crate) fn as_handle(disk: MemDisk, failing: Failing) -> MemDisk
 
 /// Puts bytes in the place of a file of the disk under a name, if it is there and not out.
 pub(crate) fn place_held(slots: &mut [Slot<MemDisk>], name: &DiskName, file: u32, bytes: &[u8])
-    requires fits { (d : MemDisk) → held_in (slot_at slots.old name.now) ≡ Some d → CanPlace d file (length bytes.now) }
-    ensures placed { (d : MemDisk) → held_in (slot_at slots.old name.now) ≡ Some d → ChangesHeld name.now (IsPlaced file bytes.now) slots.old slots.new }
+    requires fits { (d : MemDisk) → held_in (slot_at slots.old name.now) ≡ Some d
+        → CanPlace d file (length bytes.now) }
+    ensures placed { (d : MemDisk) → held_in (slot_at slots.old name.now) ≡ Some d
+        → ChangesHeld name.now (IsPlaced file bytes.now) slots.old slots.new }
     ensures absent { held_in (slot_at slots.old name.now) ≡ None → slots.new ≡ slots.old }
 {
     let Some(place) = place_of(slots, name) else {
@@ -113,7 +119,8 @@ pub(crate) fn place_held(slots: &mut [Slot<MemDisk>], name: &DiskName, file: u32
 
 /// Puts what a crash leaves of the disk under a name in its place, if it is there and not out.
 pub(crate) fn crash_held(slots: &mut [Slot<MemDisk>], name: &DiskName, pick: Pick)
-    ensures crashed { (d : MemDisk) → held_in (slot_at slots.old name.now) ≡ Some d → ChangesHeld name.now (IsCrashed pick) slots.old slots.new }
+    ensures crashed { (d : MemDisk) → held_in (slot_at slots.old name.now) ≡ Some d
+        → ChangesHeld name.now (IsCrashed pick) slots.old slots.new }
     ensures absent { held_in (slot_at slots.old name.now) ≡ None → slots.new ≡ slots.old }
 {
     let Some(place) = place_of(slots, name) else {

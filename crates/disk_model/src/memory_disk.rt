@@ -44,16 +44,20 @@ impl MemDisk {
     ) -> Result<MemDisk, NoMemory>
         ensures name { IfOk result (λ d. ⟦<MemDisk as Disk>⟧.name d ≡ name) }
         ensures reads { IfOk result (λ d. (f : ℕ) → ⟦<MemDisk as Disk>⟧.reads d f ≡ []) }
-        ensures images { IfOk result (λ d. (c : Image) → ⟦<MemDisk as Disk>⟧.images d c ↔ ((f : ℕ) → c f ≡ [])) }
-        ensures images_since { IfOk result (λ d. (k : ℕ) (c : Image) → ⟦<MemDisk as Disk>⟧.images_since d k c ↔ ((k ≡ 0) × ((f : ℕ) → c f ≡ []))) }
+        ensures images { IfOk result (λ d. (c : Image) → ⟦<MemDisk as Disk>⟧.images d c
+            ↔ ((f : ℕ) → c f ≡ [])) }
+        ensures images_since { IfOk result (λ d. (k : ℕ) (c : Image)
+            → ⟦<MemDisk as Disk>⟧.images_since d k c ↔ ((k ≡ 0) × ((f : ℕ) → c f ≡ []))) }
         ensures calls { IfOk result (λ d. ⟦<MemDisk as Disk>⟧.call_number d ≡ 0) }
         ensures faults { IfOk result (λ d. ⟦<MemDisk as Disk>⟧.fault_count d ≡ 0) }
         ensures files { IfOk result (λ d. mem_file_count d ≡ 0) }
         ensures size { IfOk result (λ d. mem_size d ≡ files) }
         ensures room { IfOk result (λ d. mem_room d ≡ room) }
         ensures limit { IfOk result (λ d. mem_limit d ≡ calls) }
-        ensures capacity { IfOk result (λ d. mem_capacity d ≡ record { files = files; room = room; calls = calls; used = 0 }) }
-        ensures fails { IfOk result (λ d. (number : ℕ) → mem_fails d number ≡ fails_at fail_at.items stop_after number) }
+        ensures capacity { IfOk result
+            (λ d. mem_capacity d ≡ record { files = files; room = room; calls = calls; used = 0 }) }
+        ensures fails { IfOk result (λ d. (number : ℕ)
+            → mem_fails d number ≡ fails_at fail_at.items stop_after number) }
     {
         Ok(MemDisk {
             name,
@@ -81,9 +85,12 @@ impl MemDisk {
         ensures disk { IsSameDisk self.old self.new }
         ensures name { ⟦<MemDisk as Disk>⟧.name self.new ≡ ⟦<MemDisk as Disk>⟧.name self.old }
         ensures files { mem_file_count self.new ≡ mem_file_count self.old }
-        ensures faults { ⟦<MemDisk as Disk>⟧.fault_count self.new ≡ ⟦<MemDisk as Disk>⟧.fault_count self.old }
+        ensures faults { ⟦<MemDisk as Disk>⟧.fault_count self.new ≡ ⟦<MemDisk as Disk>⟧.fault_count
+            self.old }
         ensures capacity { mem_capacity self.new ≡ mem_capacity self.old }
-        ensures fails { (number : ℕ) → mem_fails self.new number ≡ fails_at fail_at.items stop_after (number - ⟦<MemDisk as Disk>⟧.call_number self.old) }
+        ensures fails { (number : ℕ)
+            → mem_fails self.new number ≡ fails_at fail_at.items stop_after
+            (number - ⟦<MemDisk as Disk>⟧.call_number self.old) }
     {
         self.tally.from = self.tally.calls;
         self.tally.fail_at = fail_at;
@@ -94,9 +101,12 @@ impl MemDisk {
     /// is told to fail, and the record is empty. It takes no memory.
     pub fn crash(self, pick: Pick) -> MemDisk
         ensures image { ⟦<MemDisk as Disk>⟧.images self (⟦<MemDisk as Disk>⟧.reads result) }
-        ensures one_image { (f : ℕ) → Only f (⟦<MemDisk as Disk>⟧.reads result) (⟦<MemDisk as Disk>⟧.images result) }
-        ensures picked { (f : ℕ) → IsPicked pick (mem_states self f) (⟦<MemDisk as Disk>⟧.reads result f) }
-        ensures newest { pick ≡ Pick.New → (f : ℕ) → ⟦<MemDisk as Disk>⟧.reads result f ≡ ⟦<MemDisk as Disk>⟧.reads self f }
+        ensures one_image { (f : ℕ)
+            → Only f (⟦<MemDisk as Disk>⟧.reads result) (⟦<MemDisk as Disk>⟧.images result) }
+        ensures picked { (f : ℕ)
+            → IsPicked pick (mem_states self f) (⟦<MemDisk as Disk>⟧.reads result f) }
+        ensures newest { pick ≡ Pick.New → (f : ℕ)
+            → ⟦<MemDisk as Disk>⟧.reads result f ≡ ⟦<MemDisk as Disk>⟧.reads self f }
         ensures name { ⟦<MemDisk as Disk>⟧.name result ≡ ⟦<MemDisk as Disk>⟧.name self }
         ensures calls { ⟦<MemDisk as Disk>⟧.call_number result ≡ 0 }
         ensures faults { ⟦<MemDisk as Disk>⟧.fault_count result ≡ 0 }
@@ -137,9 +147,12 @@ impl MemDisk {
         ensures name { ⟦<MemDisk as Disk>⟧.name self.new ≡ ⟦<MemDisk as Disk>⟧.name self.old }
         ensures files { mem_file_count self.new ≡ max (mem_file_count self.old) (file + 1) }
         ensures placed { ⟦<MemDisk as Disk>⟧.reads self.new file ≡ bytes.now }
-        ensures one_image { Only file (⟦<MemDisk as Disk>⟧.reads self.new) (⟦<MemDisk as Disk>⟧.images self.new) }
-        ensures elsewhere { SameElsewhere file (⟦<MemDisk as Disk>⟧.reads self.old) (⟦<MemDisk as Disk>⟧.reads self.new) }
-        ensures calls { ⟦<MemDisk as Disk>⟧.call_number self.new ≡ ⟦<MemDisk as Disk>⟧.call_number self.old }
+        ensures one_image { Only file (⟦<MemDisk as Disk>⟧.reads self.new)
+            (⟦<MemDisk as Disk>⟧.images self.new) }
+        ensures elsewhere { SameElsewhere file (⟦<MemDisk as Disk>⟧.reads self.old)
+            (⟦<MemDisk as Disk>⟧.reads self.new) }
+        ensures calls { ⟦<MemDisk as Disk>⟧.call_number self.new ≡ ⟦<MemDisk as Disk>⟧.call_number
+            self.old }
         ensures capacity { mem_capacity self.new ≡ mem_capacity self.old }
     {
         self.trace.place(file as usize, bytes);
@@ -182,11 +195,14 @@ impl Disk for MemDisk {
         ensures there { mem_file_count self.new ≡ mem_file_count self.old }
         ensures crash { Keeps (mem_images self.old) (mem_images self.new) }
         ensures none_lost { Keeps (mem_images self.new) (mem_images self.old) }
-        ensures time { Joins (mem_calls self.old) (mem_images_since self.old) (mem_images_since self.new) (mem_images self.new) }
+        ensures time { Joins (mem_calls self.old) (mem_images_since self.old)
+            (mem_images_since self.new) (mem_images self.new) }
         ensures called { mem_calls self.new ≡ next_number (mem_calls self.old) }
-        ensures cause { HasCause (mem_calls self.old) (mem_faults self.old) (mem_faults self.new) result }
+        ensures cause { HasCause (mem_calls self.old) (mem_faults self.old) (mem_faults self.new)
+            result }
         ensures name { mem_name self.new ≡ mem_name self.old }
-        ensures fails { is_err result ≡ (mem_fails self.old (mem_calls self.old) || is_spent self.old) }
+        ensures fails { is_err result
+            ≡ (mem_fails self.old (mem_calls self.old) || is_spent self.old) }
         ensures told { SameTold self.old self.new }
     {
         let failing = self.tally.begin();
@@ -197,16 +213,20 @@ impl Disk for MemDisk {
 
     fn read_at(&mut self, file: u32, at: u64, into: &mut [u8]) -> Result<(), DiskFault>
         requires { at + length into.old ≤ length (mem_reads self.old file) }
-        ensures bytes { OnOk result (into.new ≡ take (length into.old) (drop at (mem_reads self.old file))) }
+        ensures bytes { OnOk result
+            (into.new ≡ take (length into.old) (drop at (mem_reads self.old file))) }
         ensures reads { mem_reads self.new ≡ mem_reads self.old }
         ensures there { mem_file_count self.new ≡ mem_file_count self.old }
         ensures crash { Keeps (mem_images self.old) (mem_images self.new) }
         ensures none_lost { Keeps (mem_images self.new) (mem_images self.old) }
-        ensures time { Joins (mem_calls self.old) (mem_images_since self.old) (mem_images_since self.new) (mem_images self.new) }
+        ensures time { Joins (mem_calls self.old) (mem_images_since self.old)
+            (mem_images_since self.new) (mem_images self.new) }
         ensures called { mem_calls self.new ≡ next_number (mem_calls self.old) }
-        ensures cause { HasCause (mem_calls self.old) (mem_faults self.old) (mem_faults self.new) result }
+        ensures cause { HasCause (mem_calls self.old) (mem_faults self.old) (mem_faults self.new)
+            result }
         ensures name { mem_name self.new ≡ mem_name self.old }
-        ensures fails { is_err result ≡ (mem_fails self.old (mem_calls self.old) || is_spent self.old) }
+        ensures fails { is_err result
+            ≡ (mem_fails self.old (mem_calls self.old) || is_spent self.old) }
         ensures told { SameTold self.old self.new }
     {
         let failing = self.tally.begin();
@@ -217,17 +237,27 @@ impl Disk for MemDisk {
 
     fn write_at(&mut self, file: u32, at: u64, bytes: &[u8]) -> Result<(), DiskFault>
         requires { at ≤ length (mem_reads self.old file) }
-        ensures written { OnOk result (Written file at bytes.now (mem_reads self.old) (mem_reads self.new)) }
+        ensures written { OnOk result
+            (Written file at bytes.now (mem_reads self.old) (mem_reads self.new)) }
         ensures there { MayMake file (mem_file_count self.old) (mem_file_count self.new) }
-        ensures made { OnOk result (mem_file_count self.new ≡ max (mem_file_count self.old) (file + 1)) }
-        ensures unmade { mem_calls self.old ≡ 2 ^ 64 - 1 → mem_file_count self.new ≡ mem_file_count self.old }
-        ensures crash { Follows (TornWrite file at (length bytes.now)) (mem_images self.old) (mem_images self.new) }
-        ensures spent { mem_calls self.old ≡ 2 ^ 64 - 1 → Stays (mem_reads self.old) (mem_reads self.new) (mem_images self.old) (mem_images self.new) }
-        ensures time { Joins (mem_calls self.old) (mem_images_since self.old) (mem_images_since self.new) (mem_images self.new) }
+        ensures made { OnOk result (mem_file_count self.new ≡ max (mem_file_count self.old)
+            (file + 1)) }
+        ensures unmade { mem_calls self.old ≡ 2 ^ 64 - 1
+            → mem_file_count self.new ≡ mem_file_count self.old }
+        ensures crash { Follows (TornWrite file at (length bytes.now)) (mem_images self.old)
+            (mem_images self.new) }
+        ensures spent { mem_calls self.old ≡ 2 ^ 64 - 1
+            → Stays (mem_reads self.old) (mem_reads self.new) (mem_images self.old)
+            (mem_images self.new) }
+        ensures time { Joins (mem_calls self.old) (mem_images_since self.old)
+            (mem_images_since self.new) (mem_images self.new) }
         ensures called { mem_calls self.new ≡ next_number (mem_calls self.old) }
-        ensures cause { HasCause (mem_calls self.old) (mem_faults self.old) (mem_faults self.new) result }
+        ensures cause { HasCause (mem_calls self.old) (mem_faults self.old) (mem_faults self.new)
+            result }
         ensures name { mem_name self.new ≡ mem_name self.old }
-        ensures fails { is_err result ≡ (mem_fails self.old (mem_calls self.old) || is_spent self.old || not (can_write self.old file at (length bytes.now))) }
+        ensures fails { is_err result
+            ≡ (mem_fails self.old (mem_calls self.old) || is_spent self.old || not
+            (can_write self.old file at (length bytes.now))) }
         ensures capacity { mem_capacity self.new ≡ after_write self.old file at (length bytes.now) }
         ensures told { SameFails self.old self.new }
     {
@@ -241,12 +271,17 @@ impl Disk for MemDisk {
         ensures cut { OnOk result (Shortened file size (mem_reads self.old) (mem_reads self.new)) }
         ensures there { mem_file_count self.new ≡ mem_file_count self.old }
         ensures crash { Follows (TornCut file size) (mem_images self.old) (mem_images self.new) }
-        ensures spent { mem_calls self.old ≡ 2 ^ 64 - 1 → Stays (mem_reads self.old) (mem_reads self.new) (mem_images self.old) (mem_images self.new) }
-        ensures time { Joins (mem_calls self.old) (mem_images_since self.old) (mem_images_since self.new) (mem_images self.new) }
+        ensures spent { mem_calls self.old ≡ 2 ^ 64 - 1
+            → Stays (mem_reads self.old) (mem_reads self.new) (mem_images self.old)
+            (mem_images self.new) }
+        ensures time { Joins (mem_calls self.old) (mem_images_since self.old)
+            (mem_images_since self.new) (mem_images self.new) }
         ensures called { mem_calls self.new ≡ next_number (mem_calls self.old) }
-        ensures cause { HasCause (mem_calls self.old) (mem_faults self.old) (mem_faults self.new) result }
+        ensures cause { HasCause (mem_calls self.old) (mem_faults self.old) (mem_faults self.new)
+            result }
         ensures name { mem_name self.new ≡ mem_name self.old }
-        ensures fails { is_err result ≡ (mem_fails self.old (mem_calls self.old) || is_spent self.old) }
+        ensures fails { is_err result
+            ≡ (mem_fails self.old (mem_calls self.old) || is_spent self.old) }
         ensures told { SameTold self.old self.new }
     {
         let failing = self.tally.begin();
@@ -260,11 +295,14 @@ impl Disk for MemDisk {
         ensures there { mem_file_count self.new ≡ mem_file_count self.old }
         ensures crash { Keeps (mem_images self.old) (mem_images self.new) }
         ensures none_lost { OnErr result (Keeps (mem_images self.new) (mem_images self.old)) }
-        ensures time { Joins (mem_calls self.old) (mem_images_since self.old) (mem_images_since self.new) (mem_images self.new) }
+        ensures time { Joins (mem_calls self.old) (mem_images_since self.old)
+            (mem_images_since self.new) (mem_images self.new) }
         ensures called { mem_calls self.new ≡ next_number (mem_calls self.old) }
-        ensures cause { HasCause (mem_calls self.old) (mem_faults self.old) (mem_faults self.new) result }
+        ensures cause { HasCause (mem_calls self.old) (mem_faults self.old) (mem_faults self.new)
+            result }
         ensures name { mem_name self.new ≡ mem_name self.old }
-        ensures fails { is_err result ≡ (mem_fails self.old (mem_calls self.old) || is_spent self.old) }
+        ensures fails { is_err result
+            ≡ (mem_fails self.old (mem_calls self.old) || is_spent self.old) }
         ensures told { SameTold self.old self.new }
     {
         let failing = self.tally.begin();

@@ -60,10 +60,12 @@ impl MemHost {
         ensures file_count { IfOk result (λ h. (n : DiskName) → host_file_count h n ≡ 0) }
         ensures faults { IfOk result (λ h. host_faults h ≡ 0) }
         ensures bounds { IfOk result (λ h. host_bounds h ≡ (room, calls)) }
-        ensures capacity { IfOk result (λ h. (n : DiskName) → host_capacity h n ≡ new_capacity (room, calls) n) }
+        ensures capacity { IfOk result (λ h. (n : DiskName)
+            → host_capacity h n ≡ new_capacity (room, calls) n) }
         ensures calls { IfOk result (λ h. host_own_calls h ≡ 0) }
         ensures none_fails { IfOk result (λ h. (number : ℕ) → host_fails h number ≡ false) }
-        ensures none_armed { IfOk result (λ h. (n : DiskName) (number : ℕ) → host_armed h n number ≡ false) }
+        ensures none_armed { IfOk result (λ h. (n : DiskName) (number : ℕ)
+            → host_armed h n number ≡ false) }
         ensures entered { IfOk result (λ h. host_entered h ≡ None) }
     {
         Ok(MemHost {
@@ -137,9 +139,12 @@ impl MemHost {
         requires shelves_in { host_shelves_out self.old name.now ≡ 0 }
         requires fits { CanPut self.old name.now file (length bytes.now) }
         ensures placed { OnOk result (host_reads self.new name.now file ≡ bytes.now) }
-        ensures one_image { OnOk result (Only file (host_reads self.new name.now) (host_images self.new name.now)) }
-        ensures elsewhere { SameElsewhere file (host_reads self.old name.now) (host_reads self.new name.now) }
-        ensures file_count { OnOk result (host_file_count self.new name.now ≡ max (host_file_count self.old name.now) (file + 1)) }
+        ensures one_image { OnOk result
+            (Only file (host_reads self.new name.now) (host_images self.new name.now)) }
+        ensures elsewhere { SameElsewhere file (host_reads self.old name.now)
+            (host_reads self.new name.now) }
+        ensures file_count { OnOk result (host_file_count self.new name.now
+            ≡ max (host_file_count self.old name.now) (file + 1)) }
         ensures refused { OnErr result (IsSameHeld self.old self.new name.now) }
         ensures disks { (n : DiskName) → n ≢ name.now → IsSameHeld self.old self.new n }
         ensures disks_out { AsMany (host_disks_out self.old) (host_disks_out self.new) }
@@ -167,8 +172,11 @@ impl MemHost {
         ensures bounds { host_bounds self.new ≡ host_bounds self.old }
         ensures capacity { (n : DiskName) → SameCapacity self.old self.new n }
         ensures calls { host_own_calls self.new ≡ host_own_calls self.old }
-        ensures fails { (number : ℕ) → host_fails self.new number ≡ (fails_at calls.items None (number - host_own_calls self.old)) }
-        ensures arms { (n : DiskName) (number : ℕ) → host_armed self.new n number ≡ host_armed self.old n number }
+        ensures fails { (number : ℕ)
+            → host_fails self.new number
+            ≡ (fails_at calls.items None (number - host_own_calls self.old)) }
+        ensures arms { (n : DiskName) (number : ℕ)
+            → host_armed self.new n number ≡ host_armed self.old n number }
     {
         self.tally.from = self.tally.calls;
         self.tally.fail_at = calls;
@@ -192,9 +200,12 @@ impl MemHost {
         ensures calls { host_own_calls self.new ≡ host_own_calls self.old }
         ensures fails { (number : ℕ) → host_fails self.new number ≡ host_fails self.old number }
         ensures capacity { (n : DiskName) → SameCapacity self.old self.new n }
-        ensures armed { OnOk result ((number : ℕ) → host_armed self.new name.now number ≡ fails_at fail_at.items stop_after number) }
-        ensures unarmed { OnErr result ((number : ℕ) → host_armed self.new name.now number ≡ host_armed self.old name.now number) }
-        ensures arms { (n : DiskName) (number : ℕ) → n ≢ name.now → host_armed self.new n number ≡ host_armed self.old n number }
+        ensures armed { OnOk result ((number : ℕ)
+            → host_armed self.new name.now number ≡ fails_at fail_at.items stop_after number) }
+        ensures unarmed { OnErr result ((number : ℕ)
+            → host_armed self.new name.now number ≡ host_armed self.old name.now number) }
+        ensures arms { (n : DiskName) (number : ℕ) → n ≢ name.now
+            → host_armed self.new n number ≡ host_armed self.old n number }
     {
         put_arm(
             self.alloc,
@@ -212,9 +223,12 @@ impl MemHost {
     pub fn crash(&mut self, name: &DiskName, pick: Pick)
         requires { host_disks_out self.old name.now ≡ 0 }
         ensures image { host_images self.old name.now (host_reads self.new name.now) }
-        ensures one_image { (f : ℕ) → Only f (host_reads self.new name.now) (host_images self.new name.now) }
-        ensures picked { IfSome (disk_of self.old name.now) (λ d. (f : ℕ) → IsPicked pick (mem_states d f) (host_reads self.new name.now f)) }
-        ensures newest { pick ≡ Pick.New → (f : ℕ) → host_reads self.new name.now f ≡ host_reads self.old name.now f }
+        ensures one_image { (f : ℕ)
+            → Only f (host_reads self.new name.now) (host_images self.new name.now) }
+        ensures picked { IfSome (disk_of self.old name.now) (λ d. (f : ℕ)
+            → IsPicked pick (mem_states d f) (host_reads self.new name.now f)) }
+        ensures newest { pick ≡ Pick.New → (f : ℕ)
+            → host_reads self.new name.now f ≡ host_reads self.old name.now f }
         ensures absent { disk_of self.old name.now ≡ None → IsSameHeld self.old self.new name.now }
         ensures calls { host_calls self.new name.now ≡ 0 }
         ensures file_count { host_file_count self.new name.now ≡ host_file_count self.old name.now }
@@ -227,10 +241,12 @@ impl MemHost {
         ensures bounds { host_bounds self.new ≡ host_bounds self.old }
         ensures own_calls { host_own_calls self.new ≡ host_own_calls self.old }
         ensures fails { (number : ℕ) → host_fails self.new number ≡ host_fails self.old number }
-        ensures emptied { host_capacity self.new name.now ≡ unused (host_capacity self.old name.now) }
+        ensures emptied { host_capacity self.new name.now
+            ≡ unused (host_capacity self.old name.now) }
         ensures capacity { (n : DiskName) → n ≢ name.now → SameCapacity self.old self.new n }
         ensures none_fails { (number : ℕ) → host_armed self.new name.now number ≡ false }
-        ensures arms { (n : DiskName) (number : ℕ) → n ≢ name.now → host_armed self.new n number ≡ host_armed self.old n number }
+        ensures arms { (n : DiskName) (number : ℕ) → n ≢ name.now
+            → host_armed self.new n number ≡ host_armed self.old n number }
     {
         forget_arm(&mut self.arms, name);
         crash_held(self.slots.as_mut_slice(), name, pick);
@@ -278,8 +294,10 @@ impl Host for MemHost {
         ensures disks_out { AsMany (host_disks_out self.old) (host_disks_out self.new) }
         ensures shelves_out { AsMany (host_shelves_out self.old) (host_shelves_out self.new) }
         ensures later { host_faults self.old ≤ host_faults self.new }
-        ensures device { result ≡ Err HostFault.Device → Rose (host_faults self.old) (host_faults self.new) }
-        ensures told { (result ≡ Err HostFault.Device) ↔ (host_fails self.old (host_own_calls self.old) ≡ true) }
+        ensures device { result ≡ Err HostFault.Device
+            → Rose (host_faults self.old) (host_faults self.new) }
+        ensures told { (result ≡ Err HostFault.Device)
+            ↔ (host_fails self.old (host_own_calls self.old) ≡ true) }
         ensures called { host_own_calls self.new ≡ next_number (host_own_calls self.old) }
         ensures orders { SameHostTold self.old self.new }
         ensures capacity { (n : DiskName) → SameCapacity self.old self.new n }
@@ -292,15 +310,19 @@ impl Host for MemHost {
     }
 
     fn text(&mut self, alloc: Global) -> Result<Option<Vec<u8>>, HostFault>
-        ensures text { IfOk result (λ t. MatchOption t (host_text self.old ≡ None) (λ v. host_text self.old ≡ Some v.items)) }
+        ensures text { IfOk result
+            (λ t. MatchOption t (host_text self.old ≡ None)
+            (λ v. host_text self.old ≡ Some v.items)) }
         ensures entered { host_entered self.new ≡ host_entered self.old }
         ensures text_stays { host_text self.new ≡ host_text self.old }
         ensures disks { (n : DiskName) → IsSameHeld self.old self.new n }
         ensures disks_out { AsMany (host_disks_out self.old) (host_disks_out self.new) }
         ensures shelves_out { AsMany (host_shelves_out self.old) (host_shelves_out self.new) }
         ensures later { host_faults self.old ≤ host_faults self.new }
-        ensures device { result ≡ Err HostFault.Device → Rose (host_faults self.old) (host_faults self.new) }
-        ensures told { (result ≡ Err HostFault.Device) ↔ (host_fails self.old (host_own_calls self.old) ≡ true) }
+        ensures device { result ≡ Err HostFault.Device
+            → Rose (host_faults self.old) (host_faults self.new) }
+        ensures told { (result ≡ Err HostFault.Device)
+            ↔ (host_fails self.old (host_own_calls self.old) ≡ true) }
         ensures called { host_own_calls self.new ≡ next_number (host_own_calls self.old) }
         ensures orders { SameHostTold self.old self.new }
         ensures capacity { (n : DiskName) → SameCapacity self.old self.new n }
@@ -315,15 +337,18 @@ impl Host for MemHost {
     }
 
     fn partitions(&mut self, alloc: Global, system: &Bin, stream: &Bin) -> Result<u32, HostFault>
-        ensures count { IfOk result (λ n. n ≡ min (host_file_count self.old (Stream system.now stream.now)) (2 ^ 32 - 1)) }
+        ensures count { IfOk result
+            (λ n. n ≡ min (host_file_count self.old (Stream system.now stream.now)) (2 ^ 32 - 1)) }
         ensures entered { host_entered self.new ≡ host_entered self.old }
         ensures text_stays { host_text self.new ≡ host_text self.old }
         ensures disks { (n : DiskName) → IsSameHeld self.old self.new n }
         ensures disks_out { AsMany (host_disks_out self.old) (host_disks_out self.new) }
         ensures shelves_out { AsMany (host_shelves_out self.old) (host_shelves_out self.new) }
         ensures later { host_faults self.old ≤ host_faults self.new }
-        ensures device { result ≡ Err HostFault.Device → Rose (host_faults self.old) (host_faults self.new) }
-        ensures told { (result ≡ Err HostFault.Device) ↔ (host_fails self.old (host_own_calls self.old) ≡ true) }
+        ensures device { result ≡ Err HostFault.Device
+            → Rose (host_faults self.old) (host_faults self.new) }
+        ensures told { (result ≡ Err HostFault.Device)
+            ↔ (host_fails self.old (host_own_calls self.old) ≡ true) }
         ensures called { host_own_calls self.new ≡ next_number (host_own_calls self.old) }
         ensures orders { SameHostTold self.old self.new }
         ensures capacity { (n : DiskName) → SameCapacity self.old self.new n }
@@ -344,16 +369,21 @@ impl Host for MemHost {
         ensures file { IfOk result (λ s. shelf_file s ≡ file) }
         ensures fresh { IfOk result (λ s. shelf_faults s ≡ 0) }
         ensures counted_anew { IfOk result (λ s. shelf_calls s ≡ 0) }
-        ensures armed { IfOk result (λ s. (number : ℕ) → shelf_fails s number ≡ host_armed self.old name.now number) }
-        ensures shelves_out { OnOk result (OneMore name.now (host_shelves_out self.old) (host_shelves_out self.new)) }
-        ensures refused { OnErr result (AsMany (host_shelves_out self.old) (host_shelves_out self.new)) }
+        ensures armed { IfOk result (λ s. (number : ℕ)
+            → shelf_fails s number ≡ host_armed self.old name.now number) }
+        ensures shelves_out { OnOk result
+            (OneMore name.now (host_shelves_out self.old) (host_shelves_out self.new)) }
+        ensures refused { OnErr result
+            (AsMany (host_shelves_out self.old) (host_shelves_out self.new)) }
         ensures entered { host_entered self.new ≡ host_entered self.old }
         ensures text_stays { host_text self.new ≡ host_text self.old }
         ensures disks { (n : DiskName) → IsSameHeld self.old self.new n }
         ensures disks_out { AsMany (host_disks_out self.old) (host_disks_out self.new) }
         ensures later { host_faults self.old ≤ host_faults self.new }
-        ensures device { result ≡ Err HostFault.Device → Rose (host_faults self.old) (host_faults self.new) }
-        ensures told { (result ≡ Err HostFault.Device) ↔ (host_fails self.old (host_own_calls self.old) ≡ true) }
+        ensures device { result ≡ Err HostFault.Device
+            → Rose (host_faults self.old) (host_faults self.new) }
+        ensures told { (result ≡ Err HostFault.Device)
+            ↔ (host_fails self.old (host_own_calls self.old) ≡ true) }
         ensures called { host_own_calls self.new ≡ next_number (host_own_calls self.old) }
         ensures orders { SameHostTold self.old self.new }
         ensures capacity { (n : DiskName) → SameCapacity self.old self.new n }
@@ -380,22 +410,29 @@ impl Host for MemHost {
     fn lend(&mut self, alloc: Global, name: &DiskName) -> Result<MemDisk, HostFault>
         requires disk_in { host_disks_out self.old name.now ≡ 0 }
         requires shelves_in { host_shelves_out self.old name.now ≡ 0 }
-        ensures disk { IfOk result (λ d. SameDisk (host_reads self.old name.now) (host_images self.old name.now) (host_images_since self.old name.now) (host_calls self.old name.now)
-            (mem_reads d) (mem_images d) (mem_images_since d) (mem_calls d)) }
+        ensures disk { IfOk result
+            (λ d. SameDisk (host_reads self.old name.now) (host_images self.old name.now)
+            (host_images_since self.old name.now) (host_calls self.old name.now) (mem_reads d)
+            (mem_images d) (mem_images_since d) (mem_calls d)) }
         ensures there { IfOk result (λ d. mem_file_count d ≡ host_file_count self.old name.now) }
         ensures name { IfOk result (λ d. mem_name d ≡ name.now) }
         ensures fresh { IfOk result (λ d. mem_faults d ≡ 0) }
-        ensures armed { IfOk result (λ d. (number : ℕ) → mem_fails d number ≡ host_armed self.old name.now (number - mem_calls d)) }
-        ensures disks_out { OnOk result (OneMore name.now (host_disks_out self.old) (host_disks_out self.new)) }
-        ensures refused { OnErr result (AsMany (host_disks_out self.old) (host_disks_out self.new)) }
+        ensures armed { IfOk result (λ d. (number : ℕ)
+            → mem_fails d number ≡ host_armed self.old name.now (number - mem_calls d)) }
+        ensures disks_out { OnOk result
+            (OneMore name.now (host_disks_out self.old) (host_disks_out self.new)) }
+        ensures refused { OnErr result
+            (AsMany (host_disks_out self.old) (host_disks_out self.new)) }
         ensures kept { OnErr result (IsSameHeld self.old self.new name.now) }
         ensures entered { host_entered self.new ≡ host_entered self.old }
         ensures text_stays { host_text self.new ≡ host_text self.old }
         ensures disks { (n : DiskName) → n ≢ name.now → IsSameHeld self.old self.new n }
         ensures shelves_out { AsMany (host_shelves_out self.old) (host_shelves_out self.new) }
         ensures later { host_faults self.old ≤ host_faults self.new }
-        ensures device { result ≡ Err HostFault.Device → Rose (host_faults self.old) (host_faults self.new) }
-        ensures told { (result ≡ Err HostFault.Device) ↔ (host_fails self.old (host_own_calls self.old) ≡ true) }
+        ensures device { result ≡ Err HostFault.Device
+            → Rose (host_faults self.old) (host_faults self.new) }
+        ensures told { (result ≡ Err HostFault.Device)
+            ↔ (host_fails self.old (host_own_calls self.old) ≡ true) }
         ensures called { host_own_calls self.new ≡ next_number (host_own_calls self.old) }
         ensures orders { SameHostTold self.old self.new }
         ensures lent { IfOk result (λ d. mem_capacity d ≡ host_capacity self.old name.now) }
@@ -419,7 +456,8 @@ impl Host for MemHost {
 
     fn take_shelf(&mut self, shelf: MemShelf)
         requires out { 1 ≤ host_shelves_out self.old (shelf_name shelf) }
-        ensures shelves_out { OneMore (shelf_name shelf) (host_shelves_out self.new) (host_shelves_out self.old) }
+        ensures shelves_out { OneMore (shelf_name shelf) (host_shelves_out self.new)
+            (host_shelves_out self.old) }
         ensures entered { host_entered self.new ≡ host_entered self.old }
         ensures text_stays { host_text self.new ≡ host_text self.old }
         ensures disks { (n : DiskName) → IsSameHeld self.old self.new n }
@@ -437,8 +475,9 @@ impl Host for MemHost {
     fn take_disk(&mut self, name: &DiskName, disk: MemDisk)
         requires out { 1 ≤ host_disks_out self.old name.now }
         requires own { mem_name disk ≡ name.now }
-        ensures disk { SameDisk (mem_reads disk) (mem_images disk) (mem_images_since disk) (mem_calls disk)
-            (host_reads self.new name.now) (host_images self.new name.now) (host_images_since self.new name.now) (host_calls self.new name.now) }
+        ensures disk { SameDisk (mem_reads disk) (mem_images disk) (mem_images_since disk)
+            (mem_calls disk) (host_reads self.new name.now) (host_images self.new name.now)
+            (host_images_since self.new name.now) (host_calls self.new name.now) }
         ensures there { host_file_count self.new name.now ≡ mem_file_count disk }
         ensures disks_out { OneMore name.now (host_disks_out self.new) (host_disks_out self.old) }
         ensures entered { host_entered self.new ≡ host_entered self.old }

@@ -37,7 +37,9 @@ impl Shelf for MemShelf {
         ensures file { shelf_file self.new ≡ shelf_file self.old }
         ensures called { shelf_calls self.new ≡ next_number (shelf_calls self.old) }
         ensures told { SameShelfTold self.old self.new }
-        ensures fails { is_err result ≡ (shelf_fails self.old (shelf_calls self.old) || not (nat_le (length (shelf_bytes self.old)) (2 ^ 48))) }
+        ensures fails { is_err result
+            ≡ (shelf_fails self.old (shelf_calls self.old) || not
+            (nat_le (length (shelf_bytes self.old)) (2 ^ 48))) }
     {
         let failing = self.tally.begin();
         let size = self.bytes.len() as u64;
@@ -46,7 +48,8 @@ impl Shelf for MemShelf {
 
     fn read_at(&mut self, at: u64, into: &mut [u8]) -> Result<(), DiskFault>
         requires { at + length into.old ≤ length (shelf_bytes self.old) }
-        ensures read { OnOk result (into.new ≡ take (length into.old) (drop at (shelf_bytes self.old))) }
+        ensures read { OnOk result
+            (into.new ≡ take (length into.old) (drop at (shelf_bytes self.old))) }
         ensures bytes { shelf_bytes self.new ≡ shelf_bytes self.old }
         ensures cause { OnErr result (Rose (shelf_faults self.old) (shelf_faults self.new)) }
         ensures later { shelf_faults self.old ≤ shelf_faults self.new }

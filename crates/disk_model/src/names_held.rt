@@ -8,7 +8,8 @@ use samza_model::Plain;
 
 /// The place of the first slot of this name.
 pub fn place_of<T>(slots: &[Slot<T>], name: &DiskName) -> Option<usize>
-    ensures { MatchOption result (slot_at slots.now name.now ≡ None) (λ i. IsPlace slots.now name.now i) }
+    ensures { MatchOption result (slot_at slots.now name.now ≡ None)
+        (λ i. IsPlace slots.now name.now i) }
 {
     for i in 0..slots.len() {
         let slot = &slots[i];
@@ -22,7 +23,8 @@ pub fn place_of<T>(slots: &[Slot<T>], name: &DiskName) -> Option<usize>
 /// Takes out what stands under a name.
 pub fn take_held<T: Drop>(slots: &mut [Slot<T>], name: &DiskName) -> Option<T>
     ensures value { result ≡ held_in (slot_at slots.old name.now) }
-    ensures changed { ChangesSlot name.now (λ s. record { name = s.name; held = None; shelves = s.shelves }) slots.old slots.new }
+    ensures changed { ChangesSlot name.now
+        (λ s. record { name = s.name; held = None; shelves = s.shelves }) slots.old slots.new }
     ensures none { slot_at slots.old name.now ≡ None → slots.new ≡ slots.old }
 {
     let place = place_of(slots, name)?;
@@ -32,7 +34,9 @@ pub fn take_held<T: Drop>(slots: &mut [Slot<T>], name: &DiskName) -> Option<T>
 
 /// Puts a value under a name whose slot is there.
 pub fn put_held<T: Drop>(slots: &mut [Slot<T>], name: &DiskName, value: T)
-    ensures changed { ChangesSlot name.now (λ s. record { name = s.name; held = Some value; shelves = s.shelves }) slots.old slots.new }
+    ensures changed { ChangesSlot name.now
+        (λ s. record { name = s.name; held = Some value; shelves = s.shelves }) slots.old
+        slots.new }
     ensures none { slot_at slots.old name.now ≡ None → slots.new ≡ slots.old }
 {
     if let Some(place) = place_of(slots, name) {
@@ -44,10 +48,14 @@ pub fn put_held<T: Drop>(slots: &mut [Slot<T>], name: &DiskName, value: T)
 /// Counts one shelf more that is out. It is false, and nothing changes, where no slot has the name or the count
 /// stands at its end.
 pub fn one_out<T>(slots: &mut [Slot<T>], name: &DiskName) -> bool
-    ensures changed { result ≡ true → ChangesSlot name.now (λ s. record { name = s.name; held = s.held; shelves = s.shelves + 1 }) slots.old slots.new }
+    ensures changed { result ≡ true
+        → ChangesSlot name.now
+        (λ s. record { name = s.name; held = s.held; shelves = s.shelves + 1 }) slots.old
+        slots.new }
     ensures there { result ≡ true → slot_at slots.old name.now ≡ None → ⊥ }
     ensures refused { result ≡ false → slots.new ≡ slots.old }
-    ensures cause { result ≡ false → (slot_at slots.old name.now ≡ None) ⊎ (shelves_in (slot_at slots.old name.now) ≡ 2 ^ 64 - 1) }
+    ensures cause { result ≡ false → (slot_at slots.old name.now ≡ None)
+        ⊎ (shelves_in (slot_at slots.old name.now) ≡ 2 ^ 64 - 1) }
 {
     let Some(place) = place_of(slots, name) else {
         return false;
@@ -63,7 +71,9 @@ pub fn one_out<T>(slots: &mut [Slot<T>], name: &DiskName) -> bool
 /// Counts one shelf less that is out.
 pub fn one_in<T>(slots: &mut [Slot<T>], name: &DiskName)
     requires { 1 ≤ shelves_in (slot_at slots.old name.now) }
-    ensures changed { ChangesSlot name.now (λ s. record { name = s.name; held = s.held; shelves = s.shelves - 1 }) slots.old slots.new }
+    ensures changed { ChangesSlot name.now
+        (λ s. record { name = s.name; held = s.held; shelves = s.shelves - 1 }) slots.old
+        slots.new }
 {
     if let Some(place) = place_of(slots, name) {
         let slot = &mut slots[place];
@@ -73,7 +83,8 @@ pub fn one_in<T>(slots: &mut [Slot<T>], name: &DiskName)
 
 /// What stands under a name, if it is there and not out.
 pub fn held_of<'a, T>(slots: &'a [Slot<T>], name: &DiskName) -> Option<&'a T>
-    ensures { MatchOption result (held_in (slot_at slots.now name.now) ≡ None) (λ t. held_in (slot_at slots.now name.now) ≡ Some t.now) }
+    ensures { MatchOption result (held_in (slot_at slots.now name.now) ≡ None)
+        (λ t. held_in (slot_at slots.now name.now) ≡ Some t.now) }
 {
     let place = place_of(slots, name)?;
     let slot = &slots[place];

@@ -34,7 +34,8 @@ pub(crate) fn new_disk(
     ensures name { IfOk result (λ d. mem_name d ≡ name.now) }
     ensures reads { IfOk result (λ d. (f : ℕ) → mem_reads d f ≡ []) }
     ensures images { IfOk result (λ d. (c : Image) → mem_images d c ↔ ((f : ℕ) → c f ≡ [])) }
-    ensures images_since { IfOk result (λ d. (k : ℕ) (c : Image) → mem_images_since d k c ↔ ((k ≡ 0) × ((f : ℕ) → c f ≡ []))) }
+    ensures images_since { IfOk result (λ d. (k : ℕ) (c : Image) → mem_images_since d k c
+        ↔ ((k ≡ 0) × ((f : ℕ) → c f ≡ []))) }
     ensures calls { IfOk result (λ d. mem_calls d ≡ 0) }
     ensures files { IfOk result (λ d. mem_file_count d ≡ 0) }
     ensures capacity { IfOk result (λ d. mem_capacity d ≡ new_capacity (room, calls) name.now) }

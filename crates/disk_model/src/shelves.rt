@@ -32,7 +32,8 @@ pub trait Shelf: Send + Drop {
     /// Fills the buffer from this place of the file.
     fn read_at(&mut self, at: u64, into: &mut [u8]) -> Result<(), DiskFault>
         requires { tells → at + length into.old ≤ length (bytes self.old) }
-        ensures read { OnOk result (tells → into.new ≡ take (length into.old) (drop at (bytes self.old))) }
+        ensures read { OnOk result (tells
+            → into.new ≡ take (length into.old) (drop at (bytes self.old))) }
         ensures bytes { tells → bytes self.new ≡ bytes self.old }
         ensures cause { OnErr result (Rose (fault_count self.old) (fault_count self.new)) }
         ensures later { fault_count self.old ≤ fault_count self.new }

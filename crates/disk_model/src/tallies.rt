@@ -18,7 +18,8 @@ pub(crate) struct Tally {
 impl Tally {
     /// Whether the next call is to fail.
     fn is_failing(&self) -> bool
-        ensures { result ≡ fails_at self.now.fail_at.items self.now.stop_after (self.now.calls - self.now.from) }
+        ensures { result ≡ fails_at self.now.fail_at.items self.now.stop_after
+            (self.now.calls - self.now.from) }
     {
         let number = self.calls.saturating_sub(self.from);
         if self.fail_at.contains(&number) {
@@ -32,7 +33,8 @@ impl Tally {
 
     /// Counts a call. It is true if the call is to fail.
     pub(crate) fn begin(&mut self) -> bool
-        ensures fails { result ≡ fails_at self.old.fail_at.items self.old.stop_after (self.old.calls - self.old.from) }
+        ensures fails { result ≡ fails_at self.old.fail_at.items self.old.stop_after
+            (self.old.calls - self.old.from) }
         ensures calls { self.new.calls ≡ next_number self.old.calls }
         ensures faults { self.new.faults ≡ self.old.faults }
         ensures told { SameFailing self.old self.new }
@@ -44,9 +46,11 @@ impl Tally {
 
     /// Counts a call. It is true if the call is to fail, and then a fault counts too.
     pub(crate) fn fails(&mut self) -> bool
-        ensures faults { self.new.faults ≡ (if result then next_number self.old.faults else self.old.faults) }
+        ensures faults { self.new.faults
+            ≡ (if result then next_number self.old.faults else self.old.faults) }
         ensures calls { self.new.calls ≡ next_number self.old.calls }
-        ensures fails { result ≡ fails_at self.old.fail_at.items self.old.stop_after (self.old.calls - self.old.from) }
+        ensures fails { result ≡ fails_at self.old.fail_at.items self.old.stop_after
+            (self.old.calls - self.old.from) }
         ensures told { SameFailing self.old self.new }
     {
         let fails = self.begin();
@@ -60,7 +64,8 @@ impl Tally {
     pub(crate) fn restart(&mut self)
         ensures calls { self.new.calls ≡ 0 }
         ensures faults { self.new.faults ≡ 0 }
-        ensures none { (number : ℕ) → fails_at self.new.fail_at.items self.new.stop_after number ≡ false }
+        ensures none { (number : ℕ) → fails_at self.new.fail_at.items self.new.stop_after number
+            ≡ false }
     {
         self.calls = 0;
         self.faults = 0;
@@ -86,7 +91,8 @@ impl Tally {
         value: T,
     ) -> Result<T, DiskFault>
         ensures answer { result ≡ (if failing || not made then Err DiskFault.Failed else Ok value) }
-        ensures faults { self.new.faults ≡ (if failing || not made then next_number self.old.faults else self.old.faults) }
+        ensures faults { self.new.faults
+            ≡ (if failing || not made then next_number self.old.faults else self.old.faults) }
         ensures calls { self.new.calls ≡ self.old.calls }
         ensures told { SameFailing self.old self.new }
     {

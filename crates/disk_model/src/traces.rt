@@ -78,7 +78,8 @@ impl Trace {
         ensures there { IfOk result (λ t. t.there ≡ 0) }
         ensures room { IfOk result (λ t. t.room ≡ room) }
         ensures used { IfOk result (λ t. length t.written.items ≡ 0) }
-        ensures capacity { IfOk result (λ t. capacity_of t ≡ record { files = files; room = room; calls = calls; used = 0 }) }
+        ensures capacity { IfOk result
+            (λ t. capacity_of t ≡ record { files = files; room = room; calls = calls; used = 0 }) }
         ensures files { IfOk result (λ t. length t.files.items ≡ files) }
     {
         Ok(Trace {
@@ -115,8 +116,10 @@ impl Trace {
         ensures open { count_of self.old < self.old.limit → result ≡ true }
         ensures limit { self.new.limit ≡ self.old.limit }
         ensures count { count_of self.new ≡ min (count_of self.old + 1) self.old.limit }
-        ensures past { (j f : ℕ) → (count_of self.old < self.old.limit → j ≤ count_of self.old) → then_of self.new j f ≡ then_of self.old j f }
-        ensures noted { result ≡ true → (f : ℕ) → now_of self.new f ≡ after [] f entry (now_of self.old f) }
+        ensures past { (j f : ℕ) → (count_of self.old < self.old.limit → j ≤ count_of self.old)
+            → then_of self.new j f ≡ then_of self.old j f }
+        ensures noted { result ≡ true → (f : ℕ)
+            → now_of self.new f ≡ after [] f entry (now_of self.old f) }
         ensures spared { result ≡ false → (f : ℕ) → now_of self.new f ≡ now_of self.old f }
         ensures bytes { (f : ℕ) → bytes_of self.new f ≡ bytes_of self.old f }
         ensures capacity { capacity_of self.new ≡ capacity_of self.old }
@@ -142,13 +145,19 @@ impl Trace {
     /// Writes bytes, if there is room. If not, or where the record is full, it is false, and no bytes change.
     pub(crate) fn write(&mut self, file: u32, at: usize, bytes: &[u8]) -> bool
         ensures full { self.old.limit ≤ count_of self.old → result ≡ false }
-        ensures room { count_of self.old < self.old.limit → result ≡ has_room_in self.old file at (length bytes.now) }
+        ensures room { count_of self.old < self.old.limit
+            → result ≡ has_room_in self.old file at (length bytes.now) }
         ensures limit { self.new.limit ≡ self.old.limit }
         ensures count { count_of self.new ≡ min (count_of self.old + 1) self.old.limit }
-        ensures past { (j f : ℕ) → (count_of self.old < self.old.limit → j ≤ count_of self.old) → then_of self.new j f ≡ then_of self.old j f }
-        ensures made { result ≡ true → AtFile file (with_written at bytes.now) (now_of self.old) (now_of self.new) }
-        ensures capacity { capacity_of self.new ≡ (if result then with_used (length bytes.now) (capacity_of self.old) else capacity_of self.old) }
-        ensures there { self.new.there ≡ (if result then max self.old.there (file + 1) else self.old.there) }
+        ensures past { (j f : ℕ) → (count_of self.old < self.old.limit → j ≤ count_of self.old)
+            → then_of self.new j f ≡ then_of self.old j f }
+        ensures made { result ≡ true
+            → AtFile file (with_written at bytes.now) (now_of self.old) (now_of self.new) }
+        ensures capacity { capacity_of self.new
+            ≡ (if result then with_used (length bytes.now) (capacity_of self.old) else capacity_of
+            self.old) }
+        ensures there { self.new.there
+            ≡ (if result then max self.old.there (file + 1) else self.old.there) }
         ensures spared { result ≡ false → (f : ℕ) → now_of self.new f ≡ now_of self.old f }
     {
         if self.is_full() || !self.has_room(file, at, bytes.len()) {
@@ -166,8 +175,10 @@ impl Trace {
         requires used { length self.old.written.items + length bytes.now ≤ self.old.room }
         ensures limit { self.new.limit ≡ self.old.limit }
         ensures count { count_of self.new ≡ count_of self.old + 1 }
-        ensures past { (j f : ℕ) → j ≤ count_of self.old → then_of self.new j f ≡ then_of self.old j f }
-        ensures capacity { capacity_of self.new ≡ with_used (length bytes.now) (capacity_of self.old) }
+        ensures past { (j f : ℕ) → j ≤ count_of self.old
+            → then_of self.new j f ≡ then_of self.old j f }
+        ensures capacity { capacity_of self.new ≡ with_used (length bytes.now)
+            (capacity_of self.old) }
         ensures known { self.new.there ≡ max self.old.there (file + 1) }
         ensures made { AtFile file (with_written at bytes.now) (now_of self.old) (now_of self.new) }
     {
@@ -192,8 +203,10 @@ impl Trace {
         ensures open { count_of self.old < self.old.limit → result ≡ true }
         ensures limit { self.new.limit ≡ self.old.limit }
         ensures count { count_of self.new ≡ min (count_of self.old + 1) self.old.limit }
-        ensures past { (j f : ℕ) → (count_of self.old < self.old.limit → j ≤ count_of self.old) → then_of self.new j f ≡ then_of self.old j f }
-        ensures made { result ≡ true → AtFile file (with_cut size) (now_of self.old) (now_of self.new) }
+        ensures past { (j f : ℕ) → (count_of self.old < self.old.limit → j ≤ count_of self.old)
+            → then_of self.new j f ≡ then_of self.old j f }
+        ensures made { result ≡ true
+            → AtFile file (with_cut size) (now_of self.old) (now_of self.new) }
         ensures capacity { capacity_of self.new ≡ capacity_of self.old }
         ensures there { self.new.there ≡ self.old.there }
         ensures spared { result ≡ false → (f : ℕ) → now_of self.new f ≡ now_of self.old f }
@@ -249,7 +262,8 @@ impl Trace {
 
 /// Takes what was noted of a file for nothing.
 fn forget_all(noted: &mut Vec<Entry>, file: usize)
-    ensures each { (k : ℕ) → get_or noted.new.items k Quiet ≡ without file (get_or noted.old.items k Quiet) }
+    ensures each { (k : ℕ)
+        → get_or noted.new.items k Quiet ≡ without file (get_or noted.old.items k Quiet) }
     ensures len { length noted.new.items ≡ length noted.old.items }
     ensures capacity { vec_capacity noted.new ≡ vec_capacity noted.old }
 {
@@ -284,7 +298,8 @@ fn without_file(entry: Entry, file: usize) -> Entry
 pub(crate) fn place_in(files: &mut Vec<Cells>, file: usize, bytes: &[u8])
     requires there { file < length files.old.items }
     requires fits { length bytes.now ≤ (get_or files.old.items file no_bytes).room }
-    ensures { files.new.items ≡ set files.old.items file (record { bytes = bytes.now; room = (get_or files.old.items file no_bytes).room }) }
+    ensures { files.new.items ≡ set files.old.items file
+        (record { bytes = bytes.now; room = (get_or files.old.items file no_bytes).room }) }
 {
     let cells = &mut files[file];
     cells.cut(0);
@@ -324,7 +339,12 @@ fn add_bytes(written: &mut Vec<u8>, bytes: &[u8])
 pub(crate) fn put_in(files: &mut Vec<Cells>, file: usize, at: usize, bytes: &[u8])
     requires there { file < length files.old.items }
     requires reach { at + length bytes.now ≤ (get_or files.old.items file no_bytes).room }
-    ensures { files.new.items ≡ set files.old.items file (record { bytes = put_at at bytes.now (bytes_at files.old.items file); room = (get_or files.old.items file no_bytes).room }) }
+    ensures { files.new.items ≡ set files.old.items file
+        (record {
+          bytes = put_at at bytes.now (bytes_at files.old.items file);
+          room
+              = (get_or files.old.items file no_bytes).room;
+        }) }
 {
     let cells = &mut files[file];
     cells.put(at, bytes);
@@ -332,7 +352,12 @@ pub(crate) fn put_in(files: &mut Vec<Cells>, file: usize, at: usize, bytes: &[u8
 
 /// Cuts one of the files, if it is there.
 pub(crate) fn cut_in(files: &mut Vec<Cells>, file: usize, size: usize)
-    ensures { files.new.items ≡ set files.old.items file (record { bytes = take size (bytes_at files.old.items file); room = (get_or files.old.items file no_bytes).room }) }
+    ensures { files.new.items ≡ set files.old.items file
+        (record {
+          bytes = take size (bytes_at files.old.items file);
+          room
+              = (get_or files.old.items file no_bytes).room;
+        }) }
 {
     if file < files.len() {
         let cells = &mut files[file];

@@ -49,8 +49,10 @@ impl MemSink {
 
     /// Takes what fits. It is true if all of the bytes did.
     fn take(&mut self, bytes: &[u8]) -> bool
-        ensures received { sink_received self.new ≡ sink_received self.old ++ take (sink_room self.old - length (sink_received self.old)) bytes.now }
-        ensures all { result ≡ nat_le (length (sink_received self.old) + length bytes.now) (sink_room self.old) }
+        ensures received { sink_received self.new ≡ sink_received self.old
+            ++ take (sink_room self.old - length (sink_received self.old)) bytes.now }
+        ensures all { result ≡ nat_le (length (sink_received self.old) + length bytes.now)
+            (sink_room self.old) }
         ensures writes { self.new.writes ≡ self.old.writes }
         ensures faults { self.new.faults ≡ self.old.faults }
         ensures room { self.new.room ≡ self.old.room }
@@ -76,12 +78,15 @@ impl Sink for MemSink {
     ghost fault_count = { sink_faults };
 
     fn write(&mut self, bytes: &[u8]) -> Result<(), SinkFault>
-        ensures written { OnOk result (sink_received self.new ≡ sink_received self.old ++ bytes.now) }
-        ensures part { OnErr result (TookPart bytes.now (sink_received self.old) (sink_received self.new)) }
+        ensures written { OnOk result (sink_received self.new ≡ sink_received self.old
+            ++ bytes.now) }
+        ensures part { OnErr result
+            (TookPart bytes.now (sink_received self.old) (sink_received self.new)) }
         ensures cause { OnErr result (Rose (sink_faults self.old) (sink_faults self.new)) }
         ensures later { sink_faults self.old ≤ sink_faults self.new }
         ensures fails { is_err result ≡ fails_next self.old (length bytes.now) }
-        ensures took { sink_received self.new ≡ sink_received self.old ++ taken_next self.old bytes.now }
+        ensures took { sink_received self.new ≡ sink_received self.old
+            ++ taken_next self.old bytes.now }
         ensures writes { sink_writes self.new ≡ next_number (sink_writes self.old) }
         ensures room { sink_room self.new ≡ sink_room self.old }
         ensures told { sink_fail_at self.new ≡ sink_fail_at self.old }

@@ -33,7 +33,8 @@ pub trait Sink {
     /// Writes all bytes. After `Failed` some of them, from their front on, may have been written.
     fn write(&mut self, bytes: &[u8]) -> Result<(), SinkFault>
         ensures written { OnOk result (tells → received self.new ≡ received self.old ++ bytes.now) }
-        ensures part { OnErr result (tells → TookPart bytes.now (received self.old) (received self.new)) }
+        ensures part { OnErr result (tells
+            → TookPart bytes.now (received self.old) (received self.new)) }
         ensures cause { OnErr result (Rose (fault_count self.old) (fault_count self.new)) }
         ensures later { fault_count self.old ≤ fault_count self.new };
 

@@ -35,7 +35,9 @@ impl<W: Write + Drop> Sink for StdSink<W> {
     fn write(&mut self, bytes: &[u8]) -> Result<(), SinkFault>
         ensures cause { OnErr result (Rose (std_faults self.old) (std_faults self.new)) }
         ensures later { std_faults self.old ≤ std_faults self.new }
-        ensures stream { OnOk result (Appends (W.contents (std_stream self.old)) (W.contents (std_stream self.new)) bytes.now) }
+        ensures stream { OnOk result
+            (Appends (W.contents (std_stream self.old)) (W.contents (std_stream self.new))
+            bytes.now) }
     {
         if self.stream.write_all(bytes).is_ok() && self.stream.flush().is_ok() {
             return Ok(());

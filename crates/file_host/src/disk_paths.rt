@@ -26,8 +26,10 @@ pub(crate) struct DiskPaths {
 impl DiskPaths {
     /// The paths of the disk of this name in a folder.
     pub(crate) fn new(alloc: Global, folder: &str, name: &DiskName) -> Result<DiskPaths>
-        ensures folder { IfOk result (λ d. string_bytes d.folder ≡ disk_folder folder.now name.now) }
-        ensures above { IfOk result (λ d. map string_bytes d.above.items ≡ folders_above folder.now name.now) }
+        ensures folder { IfOk result (λ d. string_bytes d.folder ≡ disk_folder folder.now
+            name.now) }
+        ensures above { IfOk result (λ d. map string_bytes d.above.items ≡ folders_above folder.now
+            name.now) }
     {
         let above = paths_above(alloc, folder, name)?;
         let folder = disk_path(alloc, folder, name)?;

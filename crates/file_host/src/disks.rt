@@ -120,7 +120,8 @@ impl<R: Files<File = File> + Drop> FileDisk<R> {
         ensures failed { IsErr result → Rose self.old.failures.count self.new.failures.count }
         ensures none { IsErr done → IsErr result }
         ensures stays { OnOk done (self.new.failures ≡ self.old.failures) }
-        ensures first { IfErr done (λ e. self.new.failures.first ≡ option_or self.old.failures.first (Some (record { call = call; file = file; error = e }))) }
+        ensures first { IfErr done (λ e. self.new.failures.first ≡ option_or self.old.failures.first
+            (Some (record { call = call; file = file; error = e }))) }
         ensures name { self.new.name ≡ self.old.name }
     {
         self.calls = one_more(self.calls);

@@ -73,8 +73,10 @@ fn greater_count<R: Files<File = File>, F: Files + Drop>(
 
 /// The count of partitions where a file of this name is there.
 fn count_with(alloc: Global, file: &str) -> Result<u32>
-    ensures some { IfOk result (λ count. (n : ℕ) → n < 2 ^ 32 → file.now ≡ file_name n → count ≡ min (n + 1) (2 ^ 32 - 1)) }
-    ensures none { IfOk result (λ count. ((n : ℕ) → n < 2 ^ 32 → file.now ≢ file_name n) → count ≡ 0) }
+    ensures some { IfOk result (λ count. (n : ℕ) → n < 2 ^ 32 → file.now ≡ file_name n
+        → count ≡ min (n + 1) (2 ^ 32 - 1)) }
+    ensures none { IfOk result (λ count. ((n : ℕ) → n < 2 ^ 32 → file.now ≢ file_name n)
+        → count ≡ 0) }
 {
     match partition_of(alloc, file)? {
         Some(partition) => Ok(partition.saturating_add(1)),

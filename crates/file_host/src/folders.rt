@@ -68,7 +68,9 @@ impl<R: Files<File = File> + AllocGlobal + Clone + Drop> FileHost<R> {
         ensures later { self.old.failures.count ≤ self.new.failures.count }
         ensures handed { self.new.handed ≡ self.old.handed }
         ensures entered { self.new.entered ≡ self.old.entered }
-        ensures first { result ≡ Device → self.new.failures.first ≡ option_or self.old.failures.first (Some (record { call = call; place = place; error = error })) }
+        ensures first { result ≡ Device
+            → self.new.failures.first ≡ option_or self.old.failures.first
+            (Some (record { call = call; place = place; error = error })) }
         ensures stays { result ≡ NoRoom → self.new.failures ≡ self.old.failures }
     {
         let fault = fault_of(&error);
@@ -159,11 +161,14 @@ impl<R: Files<File = File> + AllocGlobal + Clone + Send + Drop> Host for FileHos
 
     fn take_shelf(&mut self, shelf: FileShelf)
         requires out { 1 ≤ folder_shelves_out self.old (⟦<FileShelf as Shelf>⟧.name shelf) }
-        ensures shelves_out { OneMore (⟦<FileShelf as Shelf>⟧.name shelf) (folder_shelves_out self.new) (folder_shelves_out self.old) }
+        ensures shelves_out { OneMore (⟦<FileShelf as Shelf>⟧.name shelf)
+            (folder_shelves_out self.new) (folder_shelves_out self.old) }
         ensures disks_out { AsMany (folder_disks_out self.old) (folder_disks_out self.new) }
         ensures entered { folder_entered self.new ≡ folder_entered self.old }
-        ensures counted { folder_faults self.new ≡ added (folder_faults self.old) (⟦<FileShelf as Shelf>⟧.fault_count shelf) }
-        ensures cause { folder_cause self.new ≡ option_or (folder_cause self.old) (shelf_cause shelf) }
+        ensures counted { folder_faults self.new ≡ added (folder_faults self.old)
+            (⟦<FileShelf as Shelf>⟧.fault_count shelf) }
+        ensures cause { folder_cause self.new ≡ option_or (folder_cause self.old)
+            (shelf_cause shelf) }
     {
         self.handed.take_shelf(shelf.disk_name());
         self.failures.join(shelf.into_failures());
@@ -172,11 +177,14 @@ impl<R: Files<File = File> + AllocGlobal + Clone + Send + Drop> Host for FileHos
     fn take_disk(&mut self, name: &DiskName, disk: FileDisk<R>)
         requires out { 1 ≤ folder_disks_out self.old name.now }
         requires own { ⟦<FileDisk<R> as Disk>⟧.name disk ≡ name.now }
-        ensures disks_out { OneMore name.now (folder_disks_out self.new) (folder_disks_out self.old) }
+        ensures disks_out { OneMore name.now (folder_disks_out self.new)
+            (folder_disks_out self.old) }
         ensures shelves_out { AsMany (folder_shelves_out self.old) (folder_shelves_out self.new) }
         ensures entered { folder_entered self.new ≡ folder_entered self.old }
-        ensures counted { folder_faults self.new ≡ added (folder_faults self.old) (⟦<FileDisk<R> as Disk>⟧.fault_count disk) }
-        ensures cause { folder_cause self.new ≡ option_or (folder_cause self.old) (disk_cause disk) }
+        ensures counted { folder_faults self.new ≡ added (folder_faults self.old)
+            (⟦<FileDisk<R> as Disk>⟧.fault_count disk) }
+        ensures cause { folder_cause self.new ≡ option_or (folder_cause self.old)
+            (disk_cause disk) }
     {
         self.handed.take_disk(name);
         self.failures.join(disk.into_failures());

@@ -11,7 +11,8 @@ use std::io::{Error, ErrorKind, Result};
 /// the process runs.
 pub(crate) fn folder_path(alloc: Global, folder: &str) -> Result<String>
     ensures whole { is_whole folder.now ≡ true → IfOk result (λ p. string_bytes p ≡ folder.now) }
-    ensures slashed { is_whole folder.now ≡ false → IfOk result (λ p. string_bytes p ≡ folder.now ++ 47 ∷ []) }
+    ensures slashed { is_whole folder.now ≡ false
+        → IfOk result (λ p. string_bytes p ≡ folder.now ++ 47 ∷ []) }
     ensures path { IfOk result (λ p. string_bytes p ≡ path_of_word folder.now) }
 {
     if folder.is_empty() || folder.ends_with('/') {
@@ -127,7 +128,8 @@ pub(crate) fn file_path(alloc: Global, disk: &str, file: u32) -> Result<String>
 
 /// The number of the partition whose file has this name: `<number>.log`, in decimal without leading zeros.
 pub(crate) fn partition_of(alloc: Global, file: &str) -> Result<Option<u32>>
-    ensures { IfOk result (λ p. MatchOption p ((n : ℕ) → n < 2 ^ 32 → file.now ≢ file_name n) (λ n. file.now ≡ file_name n)) }
+    ensures { IfOk result (λ p. MatchOption p ((n : ℕ) → n < 2 ^ 32
+        → file.now ≢ file_name n) (λ n. file.now ≡ file_name n)) }
 {
     let Some(number) = number_before_end(file) else {
         return Ok(None);

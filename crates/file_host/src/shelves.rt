@@ -60,7 +60,8 @@ impl FileShelf {
         ensures later { self.old.failures.count ≤ self.new.failures.count }
         ensures failed { IsErr result → Rose self.old.failures.count self.new.failures.count }
         ensures stays { OnOk done (self.new.failures ≡ self.old.failures) }
-        ensures first { IfErr done (λ e. self.new.failures.first ≡ option_or self.old.failures.first (Some (record { call = call; file = self.old.file; error = e }))) }
+        ensures first { IfErr done (λ e. self.new.failures.first ≡ option_or self.old.failures.first
+            (Some (record { call = call; file = self.old.file; error = e }))) }
         ensures name { self.new.name ≡ self.old.name }
         ensures file { self.new.file ≡ self.old.file }
     {

@@ -230,7 +230,8 @@ fn the_calls_of_an_image_are_counted_anew(rt: HostRuntime) -> Result<(), Fail> {
 /// A host with "abcd" in file 0 of two tasks' disks, of which the first one's calls behind the first fail, and "wxyz"
 /// written over it there.
 fn torn_host(alloc: Global, task: &DiskName) -> Result<MemHost, Fail>
-    ensures { IfOk result (λ h. (host_disks_out h task.now ≡ 0) × (host_shelves_out h task.now ≡ 0)) }
+    ensures { IfOk result (λ h. (host_disks_out h task.now ≡ 0)
+        × (host_shelves_out h task.now ≡ 0)) }
 {
     let mut host = MemHost::new(alloc, None, 64, 16)?;
     put(&mut host, task, 0, b"abcd")?;

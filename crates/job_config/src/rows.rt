@@ -82,7 +82,8 @@ pub(crate) fn number(
     high: u32,
 ) -> Result<u32, RowFault>
     requires { low ≤ high }
-    ensures { Gives asked.new.items result (row pairs.now (text_of setting) (bounded default low high) asked.old.items) }
+    ensures { Gives asked.new.items result
+        (row pairs.now (text_of setting) (bounded default low high) asked.old.items) }
 {
     let key = Key::of(alloc, setting)?;
     let read = values::bounded(key.value_in(pairs), default, low, high);
@@ -98,7 +99,8 @@ pub(crate) fn millis(
     setting: Setting,
     default: Option<u64>,
 ) -> Result<Option<u64>, RowFault>
-    ensures { Gives asked.new.items result (row pairs.now (text_of setting) (millis default) asked.old.items) }
+    ensures { Gives asked.new.items result (row pairs.now (text_of setting) (millis default)
+        asked.old.items) }
 {
     let key = Key::of(alloc, setting)?;
     let read = values::millis(key.value_in(pairs), default);
@@ -142,7 +144,8 @@ pub(crate) fn job_name(
     asked: &mut Asked,
     setting: Setting,
 ) -> Result<Bin, RowFault>
-    ensures { Gives asked.new.items result (row pairs.now (text_of setting) job_name asked.old.items) }
+    ensures { Gives asked.new.items result
+        (row pairs.now (text_of setting) job_name asked.old.items) }
 {
     let key = Key::of(alloc, setting)?;
     let read = names::job_name(alloc, key.value_in(pairs))?;
@@ -158,7 +161,8 @@ pub(crate) fn inputs(
     setting: Setting,
     most: usize,
 ) -> Result<Items<Bin>, RowFault>
-    ensures { Gives asked.new.items result (row pairs.now (text_of setting) (inputs most) asked.old.items) }
+    ensures { Gives asked.new.items result
+        (row pairs.now (text_of setting) (inputs most) asked.old.items) }
 {
     let key = Key::of(alloc, setting)?;
     let read = lists::inputs(alloc, key.value_in(pairs), most)?;
@@ -174,7 +178,8 @@ pub(crate) fn outputs(
     setting: Setting,
     most: usize,
 ) -> Result<Items<Bin>, RowFault>
-    ensures { Gives asked.new.items result (row pairs.now (text_of setting) (outputs most) asked.old.items) }
+    ensures { Gives asked.new.items result
+        (row pairs.now (text_of setting) (outputs most) asked.old.items) }
 {
     let key = Key::of(alloc, setting)?;
     let read = lists::outputs(alloc, key.value_in(pairs), most)?;
@@ -190,7 +195,8 @@ pub(crate) fn one_of(
     setting: Setting,
     names: &[Bin],
 ) -> Result<Bin, RowFault>
-    ensures { Gives asked.new.items result (row pairs.now (text_of setting) (one_of names.now) asked.old.items) }
+    ensures { Gives asked.new.items result (row pairs.now (text_of setting) (one_of names.now)
+        asked.old.items) }
 {
     let key = Key::of(alloc, setting)?;
     let read = lists::one_of(alloc, key.value_in(pairs), names)?;

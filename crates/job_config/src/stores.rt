@@ -173,7 +173,8 @@ fn store_row_of_each(
     setting: StoreSetting,
     stores: Items<StoreSetup>,
 ) -> Result<Items<StoreSetup>, RowFault>
-    ensures { Gives asked.new.items result (each stores (store_row pairs.now setting) asked.old.items) }
+    ensures { Gives asked.new.items result
+        (each stores (store_row pairs.now setting) asked.old.items) }
 {
     let mut made = Vec::new(alloc);
     for store in stores.into_vec() {

@@ -116,7 +116,8 @@ fn stream_row_of_each(
     setting: StreamSetting,
     streams: Items<Stream>,
 ) -> Result<Items<Stream>, RowFault>
-    ensures { Gives asked.new.items result (each streams (stream_row pairs.now setting) asked.old.items) }
+    ensures { Gives asked.new.items result
+        (each streams (stream_row pairs.now setting) asked.old.items) }
 {
     let mut made = Vec::new(alloc);
     for stream in streams.into_vec() {

@@ -70,7 +70,8 @@ impl KeySet {
 
     /// A record for each key, with the value that it has in the slots.
     pub(crate) fn records(&self, alloc: Global, slots: &SlotMap) -> Result<Vec<Record>, NoMemory>
-        ensures { IfOk result (λ records. records.items ≡ map (record_now (content_of slots.now)) (fin.keys self.now)) }
+        ensures { IfOk result (λ records. records.items ≡ map (record_now (content_of slots.now))
+            (fin.keys self.now)) }
     {
         let mut records = Vec::with_capacity(alloc, self.tree.len())?;
         for key in &self.tree {

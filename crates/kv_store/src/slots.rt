@@ -54,7 +54,8 @@ impl SlotMap {
 
     /// The pair with the least key that isn't below this one and has a value. It passes over the deleted keys between.
     pub(crate) fn next(&self, key: &Bin) -> Option<(&Bin, &Bin)>
-        ensures { option_map (λ p. (p.0.now, p.1.now)) result ≡ next_pair (content_of self.now) key.now }
+        ensures { option_map (λ p. (p.0.now, p.1.now)) result ≡ next_pair (content_of self.now)
+            key.now }
     {
         for (found, slot) in self.tree.range(key..) {
             if let Some(value) = slot {

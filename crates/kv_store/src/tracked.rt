@@ -156,7 +156,8 @@ impl TrackedTable {
     /// to date but for these keys, they bring it up to date. Its one error is want of memory.
     pub fn unlogged(&self, alloc: Global) -> Result<Vec<Record>, NoMemory>
         ensures exact { IfOk result (λ records. records.items ≡ unlogged_records self.now) }
-        ensures replay { IfOk result (λ records. (logged : Content) → AgreesOnClean self.now logged → replayed logged records.items ≡ self.now.content) }
+        ensures replay { IfOk result (λ records. (logged : Content) → AgreesOnClean self.now logged
+            → replayed logged records.items ≡ self.now.content) }
         ensures limits { IfOk result (λ records. AllByRecursion IsWithinLimits records.items) }
     {
         self.dirty.records(alloc, &self.slots)

@@ -228,9 +228,12 @@ fn batch_of<D: Disk>(
     disk: &mut D,
     place: Place,
 ) -> Result<Option<(Items<Record>, Place)>, LogFault>
-    requires place { D.tells → (frames before : List (List RecordValue)) × HasPlace (D.reads disk.old) (D.images disk.old) log.old place frames before }
+    requires place { D.tells → (frames before : List (List RecordValue))
+        × HasPlace (D.reads disk.old) (D.images disk.old) log.old place frames before }
     requires sound { is_broken log.old ≡ false }
-    ensures behind { IfOk result (λ o. IfSome o (λ b. D.tells → (frames before : List (List RecordValue)) × HasPlace (D.reads disk.new) (D.images disk.new) log.new b.1 frames before)) }
+    ensures behind { IfOk result (λ o. IfSome o (λ b. D.tells
+        → (frames before : List (List RecordValue))
+        × HasPlace (D.reads disk.new) (D.images disk.new) log.new b.1 frames before)) }
     ensures sound { OnOk result (is_broken log.new ≡ false) }
 {
     log.batch(alloc, disk, place)
@@ -243,9 +246,11 @@ fn next_batch<D: Disk>(
     disk: &mut D,
     place: Place,
 ) -> Result<(Items<Record>, Place), Fail>
-    requires place { D.tells → (frames before : List (List RecordValue)) × HasPlace (D.reads disk.old) (D.images disk.old) log.old place frames before }
+    requires place { D.tells → (frames before : List (List RecordValue))
+        × HasPlace (D.reads disk.old) (D.images disk.old) log.old place frames before }
     requires sound { is_broken log.old ≡ false }
-    ensures behind { IfOk result (λ b. D.tells → (frames before : List (List RecordValue)) × HasPlace (D.reads disk.new) (D.images disk.new) log.new b.1 frames before) }
+    ensures behind { IfOk result (λ b. D.tells → (frames before : List (List RecordValue))
+        × HasPlace (D.reads disk.new) (D.images disk.new) log.new b.1 frames before) }
     ensures sound { OnOk result (is_broken log.new ≡ false) }
 {
     let batch = batch_of(alloc, log, disk, place)?;
@@ -296,7 +301,8 @@ fn answers_broken<D: Disk>(alloc: Global, log: &mut Log, disk: &mut D, frames: &
 
 /// Whether an append answers `Device`, and each call behind it `Broken`.
 fn breaks<D: Disk>(alloc: Global, log: &mut Log, disk: &mut D, frames: &[Frame]) -> bool
-    requires { D.tells → is_broken log.old ≡ false → (before : List (List RecordValue)) × IsOpen (D.reads disk.old) (D.images disk.old) log.old before }
+    requires { D.tells → is_broken log.old ≡ false → (before : List (List RecordValue))
+        × IsOpen (D.reads disk.old) (D.images disk.old) log.old before }
 {
     match log.append_all(disk, frames) {
         Err(LogFault::Device) => answers_broken(alloc, log, disk, frames),

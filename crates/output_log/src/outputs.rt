@@ -81,7 +81,9 @@ impl Outputs {
     /// error is want of memory.
     pub fn frames(&self, alloc: Global, output: u32) -> Result<Vec<Frame>, NoMemory>
         requires { output < length self.now.unsent }
-        ensures { IfOk result (λ frames. (lists : List (List RecordValue)) × IsCut frame_batch (sent_at self.now.unsent output) lists × AreFrames frames.items lists) }
+        ensures { IfOk result (λ frames. (lists : List (List RecordValue))
+            × IsCut frame_batch (sent_at self.now.unsent output) lists
+            × AreFrames frames.items lists) }
     {
         self.queues[output as usize].frames(alloc)
     }

@@ -78,7 +78,8 @@ impl Queue {
 
     /// The records as frames of at most 500.
     pub(crate) fn frames(&self, alloc: Global) -> Result<Vec<Frame>, NoMemory>
-        ensures { IfOk result (λ frames. (lists : List (List RecordValue)) × IsCut frame_batch self.now.records lists × AreFrames frames.items lists) }
+        ensures { IfOk result (λ frames. (lists : List (List RecordValue))
+            × IsCut frame_batch self.now.records lists × AreFrames frames.items lists) }
     {
         frames_of(alloc, self.records.as_slice(), FRAME_BATCH)
     }

@@ -53,8 +53,8 @@ fn escape_of(unit: u8) -> u8
 /// The unit that the text begins with, and the text behind it.
 #[tactic(auto, unfolding(crate::specs::Pairs::unescaped))]
 fn next_unit(text: &[Placed]) -> Result<Option<(u16, &[Placed])>, PropsFault>
-    ensures unit { MatchResult result
-        (λ next. MatchOption next (unescaped 0 text.now ≡ Ok []) (λ p. unescaped 0 text.now ≡ units_behind (Some (p.0, p.1.now))))
+    ensures unit { MatchResult result (λ next. MatchOption next (unescaped 0 text.now ≡ Ok [])
+        (λ p. unescaped 0 text.now ≡ units_behind (Some (p.0, p.1.now))))
         (λ fault. Gives (λ (x : List ℕ). x) (Err fault) (unescaped 0 text.now)) }
     ensures shorter { IfOk result (λ next. IfSome next (λ p. length p.1.now < length text.now)) }
 {

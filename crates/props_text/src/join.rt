@@ -67,7 +67,12 @@ fn push_placed(mut begun: Vec<Placed>, number: u64, line: &[u8]) -> Result<Vec<P
 
 /// Adds a natural line that isn't passed over to what goes on before it.
 fn add(begun: Vec<Placed>, number: u64, line: &[u8]) -> Result<Joined, AllocError>
-    ensures { IfOk result (λ joined. (ls : List (List ℕ)) → lines_behind joined (number + 1) ls ≡ cond (goes_on line.now) (logical_lines (Some (begun.items ++ placed number (without_last (skip_white line.now)))) (number + 1) ls) ((begun.items ++ placed number (skip_white line.now)) ∷ logical_lines None (number + 1) ls)) }
+    ensures { IfOk result (λ joined. (ls : List (List ℕ))
+        → lines_behind joined (number + 1) ls ≡ cond (goes_on line.now)
+        (logical_lines
+        (Some (begun.items ++ placed number (without_last (skip_white line.now)))) (number + 1)
+        ls) ((begun.items ++ placed number (skip_white line.now)) ∷ logical_lines None
+        (number + 1) ls)) }
 {
     let visible = skip_white(line);
     if goes_on(line) {
@@ -87,7 +92,9 @@ pub fn join(
     number: u64,
     line: &[u8],
 ) -> Result<Joined, AllocError>
-    ensures { IfOk result (λ joined. (ls : List (List ℕ)) → lines_behind joined (number + 1) ls ≡ logical_lines (option_map (λ us. us.items) begun) number (line.now ∷ ls)) }
+    ensures { IfOk result (λ joined. (ls : List (List ℕ))
+        → lines_behind joined (number + 1) ls ≡ logical_lines (option_map (λ us. us.items) begun)
+        number (line.now ∷ ls)) }
 {
     match begun {
         None => {

@@ -40,8 +40,10 @@ fn behind_line_end(text: &[u8]) -> &[u8]
 
 /// The first natural line of a text, and the text behind its end, where it has one.
 pub fn split_line(text: &[u8]) -> (&[u8], Option<&[u8]>)
-    ensures lines { MatchOption result.1 (natural_lines text.now ≡ result.0.now ∷ []) (λ rest. natural_lines text.now ≡ result.0.now ∷ natural_lines rest.now) }
-    ensures shorter { IfSome result.1 (λ rest. length result.0.now + length rest.now + 1 ≤ length text.now) }
+    ensures lines { MatchOption result.1 (natural_lines text.now ≡ result.0.now ∷ [])
+        (λ rest. natural_lines text.now ≡ result.0.now ∷ natural_lines rest.now) }
+    ensures shorter { IfSome result.1 (λ rest. length result.0.now + length rest.now + 1
+        ≤ length text.now) }
 {
     for (i, unit) in text.iter().enumerate() {
         if is_line_end(*unit) {

@@ -34,7 +34,9 @@ fn take_line(
     number: u64,
     line: &[u8],
 ) -> Result<Option<Vec<Placed>>, PropsFault>
-    ensures { Takes (option_map (λ us. us.items) begun) number line.now (entries_of tree.old.entries) (entries_of tree.new.entries) (map_ok (λ b. option_map (λ us. us.items) b) result) }
+    ensures { Takes (option_map (λ us. us.items) begun) number line.now
+        (entries_of tree.old.entries) (entries_of tree.new.entries)
+        (map_ok (λ b. option_map (λ us. us.items) b) result) }
 {
     let joined = join(alloc, begun, number, line)?;
     match joined {
@@ -49,7 +51,8 @@ fn take_line(
 
 /// Puts the pair of a line that goes on at the end of the text into the tree.
 fn put_last(tree: &mut Tree, alloc: Global, begun: Option<Vec<Placed>>) -> Result<(), PropsFault>
-    ensures { PutsLast (option_map (λ us. us.items) begun) (entries_of tree.old.entries) (entries_of tree.new.entries) result }
+    ensures { PutsLast (option_map (λ us. us.items) begun) (entries_of tree.old.entries)
+        (entries_of tree.new.entries) result }
 {
     match begun {
         None => Ok(()),

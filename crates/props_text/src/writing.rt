@@ -75,7 +75,8 @@ fn put_text(out: &mut Vec<u8>, units: &[u16]) -> Result<(), AllocError>
 
 /// Appends a pair as it is written.
 fn put_pair(out: &mut Vec<u8>, key: &[u16], value: &[u16]) -> Result<(), AllocError>
-    ensures written { OnOk result (out.new.items ≡ out.old.items ++ written_pair (key.now, value.now)) }
+    ensures written { OnOk result (out.new.items ≡ out.old.items
+        ++ written_pair (key.now, value.now)) }
     ensures units { OnOk result (AreUnits key.now × AreUnits value.now) }
 {
     put_text(out, key)?;

@@ -8,5 +8,7 @@ ghost use Rattle.samza_model.specs.Restored.{Restores};
 
 /// A task's files restore to one checkpoint and to one content of each store.
 pub fn restores_to_one()
-    ensures { (s : Setup) (image : Image) (mark mark' : Option Checkpoint) (stores stores' : List Content) → Restores s image mark stores → Restores s image mark' stores' → (mark ≡ mark') × (stores ≡ stores') }
+    ensures { (s : Setup) (image : Image) (mark mark' : Option Checkpoint)
+        (stores stores' : List Content) → Restores s image mark stores
+        → Restores s image mark' stores' → (mark ≡ mark') × (stores ≡ stores') }
 {}

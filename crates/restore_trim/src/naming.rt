@@ -27,7 +27,8 @@ fn is_place_of(alloc: Global, mark: &InputMark, input: &InputSetup) -> Result<bo
 }
 
 fn same_inputs(alloc: Global, marks: &[InputMark], inputs: &[InputSetup]) -> Result<bool, NoMemory>
-    ensures { IfOk result (λ b. IsTrue b ↔ (map marked_place marks.now ≡ map setup_place inputs.now)) }
+    ensures { IfOk result (λ b. IsTrue b
+        ↔ (map marked_place marks.now ≡ map setup_place inputs.now)) }
 {
     if marks.len() != inputs.len() {
         return Ok(false);
@@ -56,7 +57,8 @@ fn same_stores(marks: &[StoreMark], stores: &[StoreSetup]) -> bool
 
 /// Whether the checkpoint's stores and outputs are the setup's, in order.
 fn same_names(setup: &Setup, checkpoint: &Checkpoint) -> bool
-    ensures { IsTrue result ↔ ((mark_names checkpoint.now.stores ≡ setup_names setup.now.stores) × (checkpoint.now.outputs ≡ setup.now.outputs)) }
+    ensures { IsTrue result ↔ ((mark_names checkpoint.now.stores ≡ setup_names setup.now.stores)
+        × (checkpoint.now.outputs ≡ setup.now.outputs)) }
 {
     same_stores(checkpoint.stores.as_slice(), setup.stores.as_slice())
         && checkpoint.outputs.same(&setup.outputs)

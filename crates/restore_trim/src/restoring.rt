@@ -61,18 +61,27 @@ fn open_stores<D: Disk>(
     stores: u32,
 ) -> Result<(Vec<Changelog>, Vec<Table>), OpenFault>
     requires { stores ≤ 15 }
-    ensures stores { IfOk result (λ r. D.tells → HoldsStores (D.reads disk.old) (D.reads disk.new) (D.images disk.new) mark.now stores r.0.items r.1.items) }
+    ensures stores { IfOk result (λ r. D.tells
+        → HoldsStores (D.reads disk.old) (D.reads disk.new) (D.images disk.new) mark.now stores
+        r.0.items r.1.items) }
     ensures opens { OnOk result (D.tells → StoresOpen (D.reads disk.old) mark.now stores) }
-    ensures behind { OnOk result (D.tells → SameFrom (changelog_file stores) (D.reads disk.old) (D.reads disk.new)) }
+    ensures behind { OnOk result (D.tells
+        → SameFrom (changelog_file stores) (D.reads disk.old) (D.reads disk.new)) }
     ensures sizes { IfOk result (λ r. (length r.0.items ≡ stores) × (length r.1.items ≡ stores)) }
     ensures limits { IfOk result (λ r. All AreWithinLimits r.1.items) }
     ensures sound { IfOk result (λ r. AllSound r.0.items) }
-    ensures others { OnOk result (D.tells → (log : LogValue) (frames : List (List Record)) → file_of log ≡ checkpoint_file → IsOpen (D.reads disk.old) (D.images disk.old) log frames → IsOpen (D.reads disk.new) (D.images disk.new) log frames) }
+    ensures others { OnOk result (D.tells → (log : LogValue) (frames : List (List Record))
+        → file_of log ≡ checkpoint_file → IsOpen (D.reads disk.old) (D.images disk.old) log frames
+        → IsOpen (D.reads disk.new) (D.images disk.new) log frames) }
     ensures why { IfErr result (λ e. D.tells → WhyNoStores (D.reads disk.old) mark.now stores e) }
     ensures told { IfErr result (TellsStores stores) }
-    ensures any_moment { D.tells → LeavesOnly D.call_number D.images D.images_since disk.old disk.new (RevertsFiles mark.now stores) }
-    ensures refused { IfErr result (λ e. e ≢ OpenFault.Device → D.tells → SameFrom (changelog_file stores) (D.reads disk.old) (D.reads disk.new)) }
-    ensures device { IfErr result (λ e. e ≡ OpenFault.Device → Rose (D.fault_count disk.old) (D.fault_count disk.new)) }
+    ensures any_moment { D.tells
+        → LeavesOnly D.call_number D.images D.images_since disk.old disk.new
+        (RevertsFiles mark.now stores) }
+    ensures refused { IfErr result (λ e. e ≢ OpenFault.Device → D.tells
+        → SameFrom (changelog_file stores) (D.reads disk.old) (D.reads disk.new)) }
+    ensures device { IfErr result (λ e. e ≡ OpenFault.Device
+        → Rose (D.fault_count disk.old) (D.fault_count disk.new)) }
     ensures later { D.fault_count disk.old ≤ D.fault_count disk.new }
     ensures name { D.name disk.new ≡ D.name disk.old }
 {
@@ -98,16 +107,24 @@ fn open_stores<D: Disk>(
 /// The outputs' logs, one after another.
 fn open_outputs<D: Disk>(alloc: Global, disk: &mut D, outputs: u32) -> Result<Vec<Log>, OpenFault>
     requires { outputs ≤ 2 ^ 16 }
-    ensures outputs { IfOk result (λ r. D.tells → HoldsOutputs (D.reads disk.old) (D.reads disk.new) (D.images disk.new) outputs r.items) }
+    ensures outputs { IfOk result (λ r. D.tells
+        → HoldsOutputs (D.reads disk.old) (D.reads disk.new) (D.images disk.new) outputs r.items) }
     ensures sizes { IfOk result (λ r. length r.items ≡ outputs) }
     ensures sound { IfOk result (λ r. AllSound r.items) }
-    ensures elsewhere { OnOk result (D.tells → SameOutside (output_file 0) outputs (D.reads disk.old) (D.reads disk.new)) }
-    ensures others { OnOk result (D.tells → (log : LogValue) (frames : List (List Record)) → file_of log < output_file 0 → IsOpen (D.reads disk.old) (D.images disk.old) log frames → IsOpen (D.reads disk.new) (D.images disk.new) log frames) }
+    ensures elsewhere { OnOk result (D.tells
+        → SameOutside (output_file 0) outputs (D.reads disk.old) (D.reads disk.new)) }
+    ensures others { OnOk result (D.tells → (log : LogValue) (frames : List (List Record))
+        → file_of log < output_file 0 → IsOpen (D.reads disk.old) (D.images disk.old) log frames
+        → IsOpen (D.reads disk.new) (D.images disk.new) log frames) }
     ensures why { IfErr result (λ e. D.tells → WhyNoOutputs (D.reads disk.old) outputs e) }
     ensures told { IfErr result (TellsOutputs outputs) }
-    ensures any_moment { D.tells → LeavesOnly D.call_number D.images D.images_since disk.old disk.new (KeepsOutputs outputs) }
-    ensures refused { IfErr result (λ e. e ≢ OpenFault.Device → D.tells → SameOutside (output_file 0) outputs (D.reads disk.old) (D.reads disk.new)) }
-    ensures device { IfErr result (λ e. e ≡ OpenFault.Device → Rose (D.fault_count disk.old) (D.fault_count disk.new)) }
+    ensures any_moment { D.tells
+        → LeavesOnly D.call_number D.images D.images_since disk.old disk.new
+        (KeepsOutputs outputs) }
+    ensures refused { IfErr result (λ e. e ≢ OpenFault.Device → D.tells
+        → SameOutside (output_file 0) outputs (D.reads disk.old) (D.reads disk.new)) }
+    ensures device { IfErr result (λ e. e ≡ OpenFault.Device
+        → Rose (D.fault_count disk.old) (D.fault_count disk.new)) }
     ensures later { D.fault_count disk.old ≤ D.fault_count disk.new }
     ensures name { D.name disk.new ≡ D.name disk.old }
 {
@@ -137,30 +154,47 @@ pub fn restore<D: Disk>(alloc: Global, disk: &mut D, setup: &Setup) -> Result<Re
     requires few_outputs { length setup.now.outputs ≤ output_limit }
 
     // The files as they read restore to the checkpoint and the contents that are handed back.
-    ensures restored { IfOk result (λ r. D.tells → Restores setup.now (D.reads disk.old) r.checkpoint r.tables) }
+    ensures restored { IfOk result (λ r. D.tells
+        → Restores setup.now (D.reads disk.old) r.checkpoint r.tables) }
     // The logs are open, and all records of each changelog make just its store's content.
-    ensures stands { IfOk result (λ r. D.tells → IsRestored setup.now (D.reads disk.old) (D.reads disk.new) (D.images disk.new) r.checkpoint r.marks r.changelogs r.outputs r.tables) }
-    ensures opens { IfOk result (λ r. D.tells → FilesHold setup.now (D.reads disk.old) r.checkpoint) }
+    ensures stands { IfOk result (λ r. D.tells
+        → IsRestored setup.now (D.reads disk.old) (D.reads disk.new) (D.images disk.new)
+        r.checkpoint r.marks r.changelogs r.outputs r.tables) }
+    ensures opens { IfOk result (λ r. D.tells
+        → FilesHold setup.now (D.reads disk.old) r.checkpoint) }
     // The files that are none of the task's read the same, also after a refusal but for `Device`.
-    ensures others { OnOk result (D.tells → OthersStay (length setup.now.stores) (length setup.now.outputs) (D.reads disk.old) (D.reads disk.new)) }
-    ensures refused_others { IfErr result (λ e. e ≢ OpenFault.Device → D.tells → OthersStay (length setup.now.stores) (length setup.now.outputs) (D.reads disk.old) (D.reads disk.new)) }
+    ensures others { OnOk result (D.tells
+        → OthersStay (length setup.now.stores) (length setup.now.outputs) (D.reads disk.old)
+        (D.reads disk.new)) }
+    ensures refused_others { IfErr result (λ e. e ≢ OpenFault.Device → D.tells
+        → OthersStay (length setup.now.stores) (length setup.now.outputs) (D.reads disk.old)
+        (D.reads disk.new)) }
     // On every disk the checkpoint's number is the number of records of its file.
     ensures counted { IfOk result (λ r. count_of r.marks ≡ id_of r.checkpoint) }
-    ensures named { IfOk result (λ r. (k : CheckpointValue) → r.checkpoint ≡ Some k → IsNamed setup.now k) }
+    ensures named { IfOk result (λ r. (k : CheckpointValue) → r.checkpoint ≡ Some k
+        → IsNamed setup.now k) }
     ensures limits { IfOk result (λ r. All AreWithinLimits r.tables) }
-    ensures sizes { IfOk result (λ r. (length r.tables ≡ length setup.now.stores) × (length r.changelogs ≡ length setup.now.stores) × (length r.outputs ≡ length setup.now.outputs)) }
-    ensures sound { IfOk result (λ r. (is_broken r.marks ≡ false) × AllSound r.changelogs × AllSound r.outputs) }
+    ensures sizes { IfOk result (λ r. (length r.tables ≡ length setup.now.stores)
+        × (length r.changelogs ≡ length setup.now.stores)
+        × (length r.outputs ≡ length setup.now.outputs)) }
+    ensures sound { IfOk result (λ r. (is_broken r.marks ≡ false) × AllSound r.changelogs
+        × AllSound r.outputs) }
 
     ensures why { IfErr result (λ e. D.tells → WhyRefused setup.now (D.reads disk.old) e) }
     // On every disk a refusal tells a file that the task has, or a store of which more is counted than it holds.
     ensures told { IfErr result (TellsFiles (length setup.now.stores) (length setup.now.outputs)) }
     // A crash at any moment leaves files that restore as before, with nothing behind a changelog but its revert, and other files as
     // they were. So does the call, whatever it answers: what a read gives then is what a crash might have left.
-    ensures any_moment { D.tells → LeavesOnly D.call_number D.images D.images_since disk.old disk.new (OpeningLeaves setup.now) }
-    ensures reads { D.tells → (before : Image) × D.images disk.old before × OpeningLeaves setup.now before (D.reads disk.new) }
+    ensures any_moment { D.tells
+        → LeavesOnly D.call_number D.images D.images_since disk.old disk.new
+        (OpeningLeaves setup.now) }
+    ensures reads { D.tells → (before : Image) × D.images disk.old before
+        × OpeningLeaves setup.now before (D.reads disk.new) }
     // After Ok every image restores to what is handed back.
-    ensures durable { IfOk result (λ r. D.tells → (c : Image) → D.images disk.new c → Restores setup.now c r.checkpoint r.tables) }
-    ensures device { IfErr result (λ e. e ≡ OpenFault.Device → Rose (D.fault_count disk.old) (D.fault_count disk.new)) }
+    ensures durable { IfOk result (λ r. D.tells → (c : Image) → D.images disk.new c
+        → Restores setup.now c r.checkpoint r.tables) }
+    ensures device { IfErr result (λ e. e ≡ OpenFault.Device
+        → Rose (D.fault_count disk.old) (D.fault_count disk.new)) }
     ensures later { D.fault_count disk.old ≤ D.fault_count disk.new }
     ensures name { D.name disk.new ≡ D.name disk.old }
 {

@@ -48,17 +48,27 @@ fn open_changes<D: Disk>(
     count: u64,
 ) -> Result<Changelog, OpenFault>
     requires { store < 15 }
-    ensures stands { IfOk result (λ log. D.tells → StandsAt (D.reads disk.old) (D.reads disk.new) (D.images disk.new) (changelog_file store) log) }
+    ensures stands { IfOk result (λ log. D.tells
+        → StandsAt (D.reads disk.old) (D.reads disk.new) (D.images disk.new) (changelog_file store)
+        log) }
     ensures file { IfOk result (λ log. file_of log ≡ changelog_file store) }
     ensures sound { IfOk result (λ log. is_broken log ≡ false) }
     ensures enough { IfOk result (λ log. count ≤ count_of log) }
-    ensures elsewhere { OnOk result (D.tells → SameElsewhere (changelog_file store) (D.reads disk.old) (D.reads disk.new)) }
-    ensures others { D.tells → (log : LogValue) (frames : List (List Record)) → file_of log ≢ changelog_file store → IsOpen (D.reads disk.old) (D.images disk.old) log frames → IsOpen (D.reads disk.new) (D.images disk.new) log frames }
+    ensures elsewhere { OnOk result (D.tells
+        → SameElsewhere (changelog_file store) (D.reads disk.old) (D.reads disk.new)) }
+    ensures others { D.tells → (log : LogValue) (frames : List (List Record))
+        → file_of log ≢ changelog_file store
+        → IsOpen (D.reads disk.old) (D.images disk.old) log frames
+        → IsOpen (D.reads disk.new) (D.images disk.new) log frames }
     ensures why { IfErr result (λ e. D.tells → WhyNoStore (D.reads disk.old) store count e) }
     ensures told { IfErr result (TellsStore store) }
-    ensures any_moment { D.tells → LeavesOnly D.call_number D.images D.images_since disk.old disk.new (KeepsFrames (changelog_file store)) }
-    ensures refused { IfErr result (λ e. e ≢ OpenFault.Device → D.tells → SameElsewhere (changelog_file store) (D.reads disk.old) (D.reads disk.new)) }
-    ensures device { IfErr result (λ e. e ≡ OpenFault.Device → Rose (D.fault_count disk.old) (D.fault_count disk.new)) }
+    ensures any_moment { D.tells
+        → LeavesOnly D.call_number D.images D.images_since disk.old disk.new
+        (KeepsFrames (changelog_file store)) }
+    ensures refused { IfErr result (λ e. e ≢ OpenFault.Device → D.tells
+        → SameElsewhere (changelog_file store) (D.reads disk.old) (D.reads disk.new)) }
+    ensures device { IfErr result (λ e. e ≡ OpenFault.Device
+        → Rose (D.fault_count disk.old) (D.fault_count disk.new)) }
     ensures later { D.fault_count disk.old ≤ D.fault_count disk.new }
     ensures name { D.name disk.new ≡ D.name disk.old }
 {
@@ -77,7 +87,9 @@ fn open_changes<D: Disk>(
 fn revert_frames(alloc: Global, table: &Table, touched: &[Bin]) -> Result<Vec<Frame>, NoMemory>
     requires limits { AreWithinLimits table.now }
     requires short { AllByRecursion (λ key. length key ≤ key_limit) touched.now }
-    ensures { IfOk result (λ frames. (lists : List (List Record)) × IsCut frame_batch (records_of table.now touched.now) lists × AreFrames frames.items lists) }
+    ensures { IfOk result (λ frames. (lists : List (List Record))
+        × IsCut frame_batch (records_of table.now touched.now) lists
+        × AreFrames frames.items lists) }
 {
     let records = revert(alloc, table, touched)?;
     frames_of(alloc, &records, FRAME_BATCH)
@@ -92,21 +104,32 @@ fn take_back<D: Disk>(
     count: u64,
 ) -> Result<Table, OpenFault>
     requires low { store < 15 }
-    requires stands { D.tells → (frames : List (List Record)) × IsOpenAt (D.reads disk.old) (D.images disk.old) (changelog_file store) log.old frames }
+    requires stands { D.tells → (frames : List (List Record))
+        × IsOpenAt (D.reads disk.old) (D.images disk.old) (changelog_file store) log.old frames }
     requires file { file_of log.old ≡ changelog_file store }
     requires sound { is_broken log.old ≡ false }
     requires enough { count ≤ count_of log.old }
-    ensures store { IfOk result (λ table. D.tells → HoldsStore (D.reads disk.old) (D.reads disk.new) (D.images disk.new) (changelog_file store) count log.new table) }
+    ensures store { IfOk result (λ table. D.tells
+        → HoldsStore (D.reads disk.old) (D.reads disk.new) (D.images disk.new)
+        (changelog_file store) count log.new table) }
     ensures opens { OnOk result (D.tells → StoreOpens (D.reads disk.old) store count) }
     ensures limits { IfOk result (λ table. AreWithinLimits table) }
     ensures sound { OnOk result (is_broken log.new ≡ false) }
-    ensures elsewhere { OnOk result (D.tells → SameElsewhere (changelog_file store) (D.reads disk.old) (D.reads disk.new)) }
-    ensures others { D.tells → (log : LogValue) (frames : List (List Record)) → file_of log ≢ changelog_file store → IsOpen (D.reads disk.old) (D.images disk.old) log frames → IsOpen (D.reads disk.new) (D.images disk.new) log frames }
+    ensures elsewhere { OnOk result (D.tells
+        → SameElsewhere (changelog_file store) (D.reads disk.old) (D.reads disk.new)) }
+    ensures others { D.tells → (log : LogValue) (frames : List (List Record))
+        → file_of log ≢ changelog_file store
+        → IsOpen (D.reads disk.old) (D.images disk.old) log frames
+        → IsOpen (D.reads disk.new) (D.images disk.new) log frames }
     ensures why { IfErr result (λ e. D.tells → WhyNoStore (D.reads disk.old) store count e) }
     ensures told { IfErr result (TellsStore store) }
-    ensures any_moment { D.tells → LeavesOnly D.call_number D.images D.images_since disk.old disk.new (RevertsFile (changelog_file store) count) }
-    ensures refused { IfErr result (λ e. e ≢ OpenFault.Device → D.tells → SameElsewhere (changelog_file store) (D.reads disk.old) (D.reads disk.new)) }
-    ensures device { IfErr result (λ e. e ≡ OpenFault.Device → Rose (D.fault_count disk.old) (D.fault_count disk.new)) }
+    ensures any_moment { D.tells
+        → LeavesOnly D.call_number D.images D.images_since disk.old disk.new
+        (RevertsFile (changelog_file store) count) }
+    ensures refused { IfErr result (λ e. e ≢ OpenFault.Device → D.tells
+        → SameElsewhere (changelog_file store) (D.reads disk.old) (D.reads disk.new)) }
+    ensures device { IfErr result (λ e. e ≡ OpenFault.Device
+        → Rose (D.fault_count disk.old) (D.fault_count disk.new)) }
     ensures later { D.fault_count disk.old ≤ D.fault_count disk.new }
     ensures name { D.name disk.new ≡ D.name disk.old }
 {
@@ -136,17 +159,27 @@ pub(crate) fn open_store<D: Disk>(
     count: u64,
 ) -> Result<(Changelog, Table), OpenFault>
     requires { store < 15 }
-    ensures store { IfOk result (λ r. D.tells → HoldsStore (D.reads disk.old) (D.reads disk.new) (D.images disk.new) (changelog_file store) count r.0 r.1) }
+    ensures store { IfOk result (λ r. D.tells
+        → HoldsStore (D.reads disk.old) (D.reads disk.new) (D.images disk.new)
+        (changelog_file store) count r.0 r.1) }
     ensures opens { OnOk result (D.tells → StoreOpens (D.reads disk.old) store count) }
     ensures limits { IfOk result (λ r. AreWithinLimits r.1) }
     ensures sound { IfOk result (λ r. is_broken r.0 ≡ false) }
-    ensures elsewhere { OnOk result (D.tells → SameElsewhere (changelog_file store) (D.reads disk.old) (D.reads disk.new)) }
-    ensures others { D.tells → (log : LogValue) (frames : List (List Record)) → file_of log ≢ changelog_file store → IsOpen (D.reads disk.old) (D.images disk.old) log frames → IsOpen (D.reads disk.new) (D.images disk.new) log frames }
+    ensures elsewhere { OnOk result (D.tells
+        → SameElsewhere (changelog_file store) (D.reads disk.old) (D.reads disk.new)) }
+    ensures others { D.tells → (log : LogValue) (frames : List (List Record))
+        → file_of log ≢ changelog_file store
+        → IsOpen (D.reads disk.old) (D.images disk.old) log frames
+        → IsOpen (D.reads disk.new) (D.images disk.new) log frames }
     ensures why { IfErr result (λ e. D.tells → WhyNoStore (D.reads disk.old) store count e) }
     ensures told { IfErr result (TellsStore store) }
-    ensures any_moment { D.tells → LeavesOnly D.call_number D.images D.images_since disk.old disk.new (RevertsFile (changelog_file store) count) }
-    ensures refused { IfErr result (λ e. e ≢ OpenFault.Device → D.tells → SameElsewhere (changelog_file store) (D.reads disk.old) (D.reads disk.new)) }
-    ensures device { IfErr result (λ e. e ≡ OpenFault.Device → Rose (D.fault_count disk.old) (D.fault_count disk.new)) }
+    ensures any_moment { D.tells
+        → LeavesOnly D.call_number D.images D.images_since disk.old disk.new
+        (RevertsFile (changelog_file store) count) }
+    ensures refused { IfErr result (λ e. e ≢ OpenFault.Device → D.tells
+        → SameElsewhere (changelog_file store) (D.reads disk.old) (D.reads disk.new)) }
+    ensures device { IfErr result (λ e. e ≡ OpenFault.Device
+        → Rose (D.fault_count disk.old) (D.fault_count disk.new)) }
     ensures later { D.fault_count disk.old ≤ D.fault_count disk.new }
     ensures name { D.name disk.new ≡ D.name disk.old }
 {

@@ -51,7 +51,8 @@ fn put_fault(
 }
 
 fn put_bad_escape(text: &mut Text, line: u64) -> Result<(), NoMemory>
-    ensures { OnOk result (text.new ≡ text.old ++ codes "config: line " ++ decimal line ++ codes ": BadEscape") }
+    ensures { OnOk result (text.new ≡ text.old ++ codes "config: line " ++ decimal line
+        ++ codes ": BadEscape") }
 {
     text.put_count(b"config: line ", line)?;
     text.put(b": BadEscape")
@@ -112,7 +113,8 @@ fn put_not_opened(
 
 /// Adds how many are wanted, and how many less are held.
 fn put_above(text: &mut Text, wanted: u64, held: u64) -> Result<(), NoMemory>
-    ensures { OnOk result (text.new ≡ text.old ++ codes ": " ++ decimal wanted ++ codes " above " ++ decimal held) }
+    ensures { OnOk result (text.new ≡ text.old ++ codes ": " ++ decimal wanted ++ codes " above "
+        ++ decimal held) }
 {
     text.put_count(b": ", wanted)?;
     text.put_count(b" above ", held)
@@ -137,7 +139,8 @@ fn put_file(
     input: Option<u32>,
     file: u64,
 ) -> Result<(), NoMemory>
-    ensures { OnOk result (text.new ≡ text.old ++ what.now ++ file_text task inputs.now input file) }
+    ensures { OnOk result (text.new ≡ text.old ++ what.now
+        ++ file_text task inputs.now input file) }
 {
     text.put(what)?;
     match input {
@@ -151,7 +154,8 @@ fn put_file(
 
 /// Adds an input's partition; nothing where there is no such input.
 fn put_input(text: &mut Text, inputs: &[Ssp], input: u32) -> Result<(), NoMemory>
-    ensures { OnOk result (text.new ≡ text.old ++ input_text partition_text (slice_get inputs.now input)) }
+    ensures { OnOk result (text.new ≡ text.old
+        ++ input_text partition_text (slice_get inputs.now input)) }
 {
     if (input as usize) < inputs.len() {
         text.put_partition(&inputs[input as usize])?;
@@ -161,7 +165,8 @@ fn put_input(text: &mut Text, inputs: &[Ssp], input: u32) -> Result<(), NoMemory
 
 /// Adds an input's stream; nothing where there is no such input.
 fn put_input_topic(text: &mut Text, inputs: &[Ssp], input: u32) -> Result<(), NoMemory>
-    ensures { OnOk result (text.new ≡ text.old ++ input_text topic_of (slice_get inputs.now input)) }
+    ensures { OnOk result (text.new ≡ text.old
+        ++ input_text topic_of (slice_get inputs.now input)) }
 {
     if (input as usize) < inputs.len() {
         text.put_topic(&inputs[input as usize])?;

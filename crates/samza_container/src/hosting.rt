@@ -30,14 +30,25 @@ pub(crate) fn run_task<H: Host, J: Job>(
     requires set_up { IsSetUp setup }
     requires none_out { NoneOut (H.disks_out host.old) (H.shelves_out host.old) }
     requires apart { input.now ≢ task.now }
-    ensures ran { IfOk result (λ r. H.tells → Reported (J.meaning (J.plain job.now)) setup ((H.folder host.old).disks input.now partition) ((H.folder host.old).disks task.now) ((H.folder host.new).disks task.now) (H.images host.new task.now) r) }
-    ensures any_moment { H.tells → LeavesAt H.folder H.images H.images_since H.call_number host.old host.new task.now (RunLeaves (ends_with result) (J.meaning (J.plain job.now)) setup ((H.folder host.old).disks input.now partition) ((H.folder host.old).disks task.now)) }
-    ensures why { IfErr result (λ e. H.tells → WhyUnfinished (J.meaning (J.plain job.now)) setup ((H.folder host.old).disks input.now partition) ((H.folder host.old).disks task.now) e) }
+    ensures ran { IfOk result (λ r. H.tells
+        → Reported (J.meaning (J.plain job.now)) setup
+        ((H.folder host.old).disks input.now partition) ((H.folder host.old).disks task.now)
+        ((H.folder host.new).disks task.now) (H.images host.new task.now) r) }
+    ensures any_moment { H.tells
+        → LeavesAt H.folder H.images H.images_since H.call_number host.old host.new task.now
+        (RunLeaves (ends_with result) (J.meaning (J.plain job.now)) setup
+        ((H.folder host.old).disks input.now partition) ((H.folder host.old).disks task.now)) }
+    ensures why { IfErr result (λ e. H.tells
+        → WhyUnfinished (J.meaning (J.plain job.now)) setup
+        ((H.folder host.old).disks input.now partition) ((H.folder host.old).disks task.now)
+        e) }
     ensures told { IfErr result (TellsOf setup) }
-    ensures others { H.tells → (n : DiskNameValue) → n ≢ task.now → SameAt H.folder H.images H.images_since H.call_number host.old host.new n }
+    ensures others { H.tells → (n : DiskNameValue) → n ≢ task.now
+        → SameAt H.folder H.images H.images_since H.call_number host.old host.new n }
     ensures entered { H.entered host.new ≡ H.entered host.old }
     ensures back { NoneOut (H.disks_out host.new) (H.shelves_out host.new) }
-    ensures device { IfErr result (λ e. status_of e ≡ 4 → Rose (H.fault_count host.old) (H.fault_count host.new)) }
+    ensures device { IfErr result (λ e. status_of e ≡ 4
+        → Rose (H.fault_count host.old) (H.fault_count host.new)) }
     ensures later { H.fault_count host.old ≤ H.fault_count host.new }
 {
     let disk = match host.lend(alloc, task) {

@@ -13,12 +13,15 @@ ghost use Rattle.samza_container.specs.Words.{IsCommand};
 /// Where a command's folder can be run to its end there is no cause for it to stop: beside the faults of a device and of
 /// memory, with the statuses 4 and 8, no fault has one.
 pub fn runs_or_says_why()
-    ensures { (words : List (List ℕ)) (f : Folder) (e : RunFaultValue) → IsCommand words → Runnable f → status_of e ≢ 4 → status_of e ≢ 8 → WhyStopped words f e → ⊥ }
+    ensures { (words : List (List ℕ)) (f : Folder) (e : RunFaultValue) → IsCommand words
+        → Runnable f → status_of e ≢ 4 → status_of e ≢ 8 → WhyStopped words f e → ⊥ }
 {}
 
 /// A command's folder has one cause for which its run stops, beside those of the statuses 4 and 8.
 pub fn stops_with_one_cause()
-    ensures { (words : List (List ℕ)) (f : Folder) (e e' : RunFaultValue) → IsCommand words → status_of e ≢ 4 → status_of e ≢ 8 → status_of e' ≢ 4 → status_of e' ≢ 8 → WhyStopped words f e → WhyStopped words f e' → e ≡ e' }
+    ensures { (words : List (List ℕ)) (f : Folder) (e e' : RunFaultValue) → IsCommand words
+        → status_of e ≢ 4 → status_of e ≢ 8 → status_of e' ≢ 4 → status_of e' ≢ 8
+        → WhyStopped words f e → WhyStopped words f e' → e ≡ e' }
 {}
 
 /// A configuration of which all is built sets up a task for which a unit is opened: it has one input, and its checkpoints

@@ -40,7 +40,9 @@ fn system_key(alloc: Global, system: &[u8], word: &[u8]) -> Result<Bin, NoMemory
 /// The first key of the job as a whole that asks for what isn't built. Where none does, the input's keys are left.
 #[tactic(auto, unfolding(crate::specs::NotBuilt::first_not_built))]
 fn first_of_job(config: &JobConfig) -> Option<&'static [u8]>
-    ensures { MatchOption result (first_not_built config.now ≡ first_asked (input_rows config.now.inputs)) (λ key. first_not_built config.now ≡ Some key.now) }
+    ensures { MatchOption result
+        (first_not_built config.now ≡ first_asked (input_rows config.now.inputs))
+        (λ key. first_not_built config.now ≡ Some key.now) }
 {
     if is_other_job(&config.class) {
         Some(b"task.class")

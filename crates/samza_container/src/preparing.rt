@@ -26,10 +26,12 @@ fn configure<H: Host>(alloc: Global, folder: &str, host: &mut H) -> Result<JobCo
     ensures built { IfOk result (λ c. first_not_built c ≡ None) }
     ensures why { IfErr result (λ e. H.tells → WhyNotReady (H.folder host.old) e) }
     ensures of_folder { IfErr result IsOfFolder }
-    ensures disks { H.tells → (n : DiskNameValue) → SameAt H.folder H.images H.images_since H.call_number host.old host.new n }
+    ensures disks { H.tells → (n : DiskNameValue)
+        → SameAt H.folder H.images H.images_since H.call_number host.old host.new n }
     ensures disks_out { AsMany (H.disks_out host.old) (H.disks_out host.new) }
     ensures shelves_out { AsMany (H.shelves_out host.old) (H.shelves_out host.new) }
-    ensures device { IfErr result (λ e. status_of e ≡ 4 → Rose (H.fault_count host.old) (H.fault_count host.new)) }
+    ensures device { IfErr result (λ e. status_of e ≡ 4
+        → Rose (H.fault_count host.old) (H.fault_count host.new)) }
     ensures entered { HasEntered (ends_with result) → H.entered host.new ≡ Some folder.now }
     ensures later { H.fault_count host.old ≤ H.fault_count host.new }
 {
@@ -58,12 +60,15 @@ fn not_built(alloc: Global, key: &[u8]) -> RunFault
 fn check_partitions<H: Host>(alloc: Global, setup: &Setup, host: &mut H) -> Result<(), RunFault>
     requires { IsSetUp setup.now }
     ensures one { OnOk result (H.tells → (H.folder host.old).files (input_disk setup.now) ≡ 1) }
-    ensures why { IfErr result (λ e. H.tells → WhyNotOne ((H.folder host.old).files (input_disk setup.now)) e) }
+    ensures why { IfErr result (λ e. H.tells
+        → WhyNotOne ((H.folder host.old).files (input_disk setup.now)) e) }
     ensures of_folder { IfErr result IsOfFolder }
-    ensures disks { H.tells → (n : DiskNameValue) → SameAt H.folder H.images H.images_since H.call_number host.old host.new n }
+    ensures disks { H.tells → (n : DiskNameValue)
+        → SameAt H.folder H.images H.images_since H.call_number host.old host.new n }
     ensures disks_out { AsMany (H.disks_out host.old) (H.disks_out host.new) }
     ensures shelves_out { AsMany (H.shelves_out host.old) (H.shelves_out host.new) }
-    ensures device { IfErr result (λ e. status_of e ≡ 4 → Rose (H.fault_count host.old) (H.fault_count host.new)) }
+    ensures device { IfErr result (λ e. status_of e ≡ 4
+        → Rose (H.fault_count host.old) (H.fault_count host.new)) }
     ensures entered { H.entered host.new ≡ H.entered host.old }
     ensures later { H.fault_count host.old ≤ H.fault_count host.new }
 {
@@ -82,10 +87,12 @@ pub(crate) fn prepare<H: Host>(alloc: Global, folder: &str, host: &mut H) -> Res
     ensures ready { IfOk result (λ s. H.tells → IsReady (H.folder host.old) word_count s) }
     ensures why { IfErr result (λ e. H.tells → WhyNotReady (H.folder host.old) e) }
     ensures of_folder { IfErr result IsOfFolder }
-    ensures disks { H.tells → (n : DiskNameValue) → SameAt H.folder H.images H.images_since H.call_number host.old host.new n }
+    ensures disks { H.tells → (n : DiskNameValue)
+        → SameAt H.folder H.images H.images_since H.call_number host.old host.new n }
     ensures disks_out { AsMany (H.disks_out host.old) (H.disks_out host.new) }
     ensures shelves_out { AsMany (H.shelves_out host.old) (H.shelves_out host.new) }
-    ensures device { IfErr result (λ e. status_of e ≡ 4 → Rose (H.fault_count host.old) (H.fault_count host.new)) }
+    ensures device { IfErr result (λ e. status_of e ≡ 4
+        → Rose (H.fault_count host.old) (H.fault_count host.new)) }
     ensures entered { HasEntered (ends_with result) → H.entered host.new ≡ Some folder.now }
     ensures later { H.fault_count host.old ≤ H.fault_count host.new }
 {

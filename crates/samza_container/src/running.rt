@@ -30,7 +30,9 @@ fn process_all<'j, J: Job, D: Disk, S: Shelf>(
     requires logged { NothingUnlogged unit.old.setup unit.old.unlogged }
     ensures advances { Advances (J.meaning unit.old.job) unit.old unit.new }
     ensures end { OnOk result (unit.new.next ≡ length unit.old.messages) }
-    ensures failed { IfErr result (λ e. (f : FailureValue) → e ≡ OneFault.Failed f → IsFailed (J.meaning unit.old.job) unit.old.setup unit.old.messages unit.old.begun unit.new.next unit.new.state f) }
+    ensures failed { IfErr result (λ e. (f : FailureValue) → e ≡ OneFault.Failed f
+        → IsFailed (J.meaning unit.old.job) unit.old.setup unit.old.messages unit.old.begun
+        unit.new.next unit.new.state f) }
 {
     loop {
         match unit.one_message() {
@@ -48,11 +50,20 @@ fn process_and_commit<'j, J: Job, D: Disk, S: Shelf>(
     requires within { unit.old.next ≤ length unit.old.messages }
     requires logged { NothingUnlogged unit.old.setup unit.old.unlogged }
     requires sound { unit.old.broken ≡ false }
-    ensures done { OnOk result (D.tells → FinishesAs (J.meaning unit.old.job) (D.reads unit.old.disk) (D.reads unit.new.disk) (D.images unit.new.disk) unit.old unit.new) }
-    ensures any_moment { D.tells → (contents : List Content) → Restores unit.old.setup (D.reads unit.old.disk) unit.old.mark contents
-        → LeavesOnly D.call_number D.images D.images_since unit.old.disk unit.new.disk (FinishLeaves (ends_with result) (J.meaning unit.old.job) unit.old.setup unit.old.messages unit.old.next unit.old.state (D.reads unit.old.disk) unit.old.mark contents) }
-    ensures why { IfErr result (λ e. WhyNotFinished D.tells (J.meaning unit.old.job) unit.old.setup (D.reads unit.old.disk) unit.old.mark unit.old.messages unit.old.begun unit.old.next unit.old.state e) }
-    ensures device { IfErr result (λ e. status_of e ≡ 4 → Rose (D.fault_count unit.old.disk) (D.fault_count unit.new.disk)) }
+    ensures done { OnOk result (D.tells
+        → FinishesAs (J.meaning unit.old.job) (D.reads unit.old.disk) (D.reads unit.new.disk)
+        (D.images unit.new.disk) unit.old unit.new) }
+    ensures any_moment { D.tells → (contents : List Content)
+        → Restores unit.old.setup (D.reads unit.old.disk) unit.old.mark contents
+        → LeavesOnly D.call_number D.images D.images_since unit.old.disk unit.new.disk
+        (FinishLeaves (ends_with result) (J.meaning unit.old.job) unit.old.setup
+        unit.old.messages unit.old.next unit.old.state (D.reads unit.old.disk) unit.old.mark
+        contents) }
+    ensures why { IfErr result (λ e. WhyNotFinished D.tells (J.meaning unit.old.job) unit.old.setup
+        (D.reads unit.old.disk) unit.old.mark unit.old.messages unit.old.begun unit.old.next
+        unit.old.state e) }
+    ensures device { IfErr result (λ e. status_of e ≡ 4
+        → Rose (D.fault_count unit.old.disk) (D.fault_count unit.new.disk)) }
     ensures later { D.fault_count unit.old.disk ≤ D.fault_count unit.new.disk }
     ensures name { D.name unit.new.disk ≡ D.name unit.old.disk }
     ensures shelf { unit.new.shelf ≡ unit.old.shelf }
@@ -84,11 +95,21 @@ fn run_unit<'j, J: Job, D: Disk, S: Shelf>(
     requires within { unit.old.next ≤ length unit.old.messages }
     requires logged { NothingUnlogged unit.old.setup unit.old.unlogged }
     requires sound { unit.old.broken ≡ false }
-    ensures done { IfOk result (λ r. D.tells → FinishesWith (J.meaning unit.old.job) unit.old.setup unit.old.messages unit.old.begun unit.old.next unit.old.state (D.reads unit.old.disk) (D.reads unit.new.disk) (D.images unit.new.disk) unit.old.mark (cleared_at unit.old.cleared) r) }
-    ensures any_moment { D.tells → (contents : List Content) → Restores unit.old.setup (D.reads unit.old.disk) unit.old.mark contents
-        → LeavesOnly D.call_number D.images D.images_since unit.old.disk unit.new.disk (FinishLeaves (ends_with result) (J.meaning unit.old.job) unit.old.setup unit.old.messages unit.old.next unit.old.state (D.reads unit.old.disk) unit.old.mark contents) }
-    ensures why { IfErr result (λ e. WhyNotFinished D.tells (J.meaning unit.old.job) unit.old.setup (D.reads unit.old.disk) unit.old.mark unit.old.messages unit.old.begun unit.old.next unit.old.state e) }
-    ensures device { IfErr result (λ e. status_of e ≡ 4 → Rose (D.fault_count unit.old.disk) (D.fault_count unit.new.disk)) }
+    ensures done { IfOk result (λ r. D.tells
+        → FinishesWith (J.meaning unit.old.job) unit.old.setup unit.old.messages unit.old.begun
+        unit.old.next unit.old.state (D.reads unit.old.disk) (D.reads unit.new.disk)
+        (D.images unit.new.disk) unit.old.mark (cleared_at unit.old.cleared) r) }
+    ensures any_moment { D.tells → (contents : List Content)
+        → Restores unit.old.setup (D.reads unit.old.disk) unit.old.mark contents
+        → LeavesOnly D.call_number D.images D.images_since unit.old.disk unit.new.disk
+        (FinishLeaves (ends_with result) (J.meaning unit.old.job) unit.old.setup
+        unit.old.messages unit.old.next unit.old.state (D.reads unit.old.disk) unit.old.mark
+        contents) }
+    ensures why { IfErr result (λ e. WhyNotFinished D.tells (J.meaning unit.old.job) unit.old.setup
+        (D.reads unit.old.disk) unit.old.mark unit.old.messages unit.old.begun unit.old.next
+        unit.old.state e) }
+    ensures device { IfErr result (λ e. status_of e ≡ 4
+        → Rose (D.fault_count unit.old.disk) (D.fault_count unit.new.disk)) }
     ensures later { D.fault_count unit.old.disk ≤ D.fault_count unit.new.disk }
     ensures name { D.name unit.new.disk ≡ D.name unit.old.disk }
     ensures shelf { unit.new.shelf ≡ unit.old.shelf }
@@ -113,14 +134,23 @@ pub(crate) fn run_on_disk<J: Job, D: Disk, S: Shelf>(
 ) -> (Result<TaskReport, RunFault>, D, S)
     requires { IsSetUp setup }
     // After Ok a crash leaves nothing else.
-    ensures ran { IfOk result.0 (λ r. D.tells → S.tells → Reported (J.meaning (J.plain job.now)) setup (S.bytes shelf) (D.reads disk) (D.reads result.1) (D.images result.1) r) }
+    ensures ran { IfOk result.0 (λ r. D.tells → S.tells
+        → Reported (J.meaning (J.plain job.now)) setup (S.bytes shelf) (D.reads disk)
+        (D.reads result.1) (D.images result.1) r) }
     // A crash at any moment leaves files that restore as before, or with what the whole input makes of them.
-    ensures any_moment { D.tells → S.tells → LeavesOnly D.call_number D.images D.images_since disk result.1 (RunLeaves (ends_with result.0) (J.meaning (J.plain job.now)) setup (S.bytes shelf) (D.reads disk)) }
-    ensures why { IfErr result.0 (λ e. D.tells → S.tells → WhyUnfinished (J.meaning (J.plain job.now)) setup (S.bytes shelf) (D.reads disk) e) }
+    ensures any_moment { D.tells → S.tells
+        → LeavesOnly D.call_number D.images D.images_since disk result.1
+        (RunLeaves (ends_with result.0) (J.meaning (J.plain job.now)) setup (S.bytes shelf)
+        (D.reads disk)) }
+    ensures why { IfErr result.0 (λ e. D.tells → S.tells
+        → WhyUnfinished (J.meaning (J.plain job.now)) setup (S.bytes shelf) (D.reads disk) e) }
     ensures told { IfErr result.0 (TellsOf setup) }
-    ensures device { IfErr result.0 (λ e. status_of e ≡ 4 → Rose (D.fault_count disk) (D.fault_count result.1) ⊎ Rose (S.fault_count shelf) (S.fault_count result.2)) }
+    ensures device { IfErr result.0 (λ e. status_of e ≡ 4
+        → Rose (D.fault_count disk) (D.fault_count result.1)
+        ⊎ Rose (S.fault_count shelf) (S.fault_count result.2)) }
     ensures disk { (D.name result.1 ≡ D.name disk) × (D.fault_count disk ≤ D.fault_count result.1) }
-    ensures shelf { (S.name result.2 ≡ S.name shelf) × (S.fault_count shelf ≤ S.fault_count result.2) }
+    ensures shelf { (S.name result.2 ≡ S.name shelf)
+        × (S.fault_count shelf ≤ S.fault_count result.2) }
 {
     let mut unit = match OneUnit::open_one(alloc, job, setup, disk, shelf) {
         Ok(unit) => unit,

@@ -31,15 +31,26 @@ use std::alloc::Global;
 fn run_set_up<H: Host>(alloc: Global, setup: Setup, host: &mut H) -> Result<TaskReport, Stopped>
     requires set_up { IsSetUp setup }
     requires none_out { NoneOut (H.disks_out host.old) (H.shelves_out host.old) }
-    ensures ran { IfOk result (λ r. H.tells → Reported word_count setup ((H.folder host.old).disks (input_disk setup) 0) ((H.folder host.old).disks task_disk) ((H.folder host.new).disks task_disk) (H.images host.new task_disk) r) }
-    ensures any_moment { H.tells → LeavesAt H.folder H.images H.images_since H.call_number host.old host.new task_disk (RunLeaves (stops_with result) word_count setup ((H.folder host.old).disks (input_disk setup) 0) ((H.folder host.old).disks task_disk)) }
-    ensures why { IfErr result (λ s. H.tells → WhyUnfinished word_count setup ((H.folder host.old).disks (input_disk setup) 0) ((H.folder host.old).disks task_disk) s.fault) }
+    ensures ran { IfOk result (λ r. H.tells
+        → Reported word_count setup ((H.folder host.old).disks (input_disk setup) 0)
+        ((H.folder host.old).disks task_disk) ((H.folder host.new).disks task_disk)
+        (H.images host.new task_disk) r) }
+    ensures any_moment { H.tells
+        → LeavesAt H.folder H.images H.images_since H.call_number host.old host.new task_disk
+        (RunLeaves (stops_with result) word_count setup
+        ((H.folder host.old).disks (input_disk setup) 0)
+        ((H.folder host.old).disks task_disk)) }
+    ensures why { IfErr result (λ s. H.tells
+        → WhyUnfinished word_count setup ((H.folder host.old).disks (input_disk setup) 0)
+        ((H.folder host.old).disks task_disk) s.fault) }
     ensures told { IfErr result (λ s. TellsOf setup s.fault) }
     ensures named { IfErr result (λ s. NamesTask s.fault → IsOf setup s.task s.inputs.items) }
-    ensures others { H.tells → (n : DiskNameValue) → n ≢ task_disk → SameAt H.folder H.images H.images_since H.call_number host.old host.new n }
+    ensures others { H.tells → (n : DiskNameValue) → n ≢ task_disk
+        → SameAt H.folder H.images H.images_since H.call_number host.old host.new n }
     ensures entered { H.entered host.new ≡ H.entered host.old }
     ensures back { NoneOut (H.disks_out host.new) (H.shelves_out host.new) }
-    ensures device { stops_with result ≡ 4 → Rose (H.fault_count host.old) (H.fault_count host.new) }
+    ensures device { stops_with result ≡ 4
+        → Rose (H.fault_count host.old) (H.fault_count host.new) }
     ensures later { H.fault_count host.old ≤ H.fault_count host.new }
 {
     let (Ok(input), Ok(inputs)) = (input_disk(alloc, &setup), inputs_of(alloc, &setup)) else {
@@ -61,16 +72,25 @@ fn run_set_up<H: Host>(alloc: Global, setup: Setup, host: &mut H) -> Result<Task
 /// of the task.
 fn run<H: Host>(alloc: Global, words: &[String], host: &mut H) -> Result<TaskReport, Stopped>
     requires none_out { NoneOut (H.disks_out host.old) (H.shelves_out host.old) }
-    ensures ran { IfOk result (λ r. H.tells → RunsTo (H.folder host.old) ((H.folder host.new).disks task_disk) (H.images host.new task_disk) r) }
-    ensures any_moment { H.tells → LeavesAt H.folder H.images H.images_since H.call_number host.old host.new task_disk (FolderLeaves (H.folder host.old) (stops_with result)) }
+    ensures ran { IfOk result (λ r. H.tells
+        → RunsTo (H.folder host.old) ((H.folder host.new).disks task_disk)
+        (H.images host.new task_disk) r) }
+    ensures any_moment { H.tells
+        → LeavesAt H.folder H.images H.images_since H.call_number host.old host.new task_disk
+        (FolderLeaves (H.folder host.old) (stops_with result)) }
     ensures command { OnOk result (IsCommand (map string_bytes words.now)) }
-    ensures cause { IfErr result (λ s. IsCause H.tells (map string_bytes words.now) (H.folder host.old) s.task s.inputs.items s.fault) }
+    ensures cause { IfErr result (λ s. IsCause H.tells (map string_bytes words.now)
+        (H.folder host.old) s.task s.inputs.items s.fault) }
     ensures no_command { (IsCommand (map string_bytes words.now) → ⊥) → stops_with result ≡ 2 }
-    ensures refused { stops_with result ≡ 2 → (IsCommand (map string_bytes words.now) → ⊥) × (host.new ≡ host.old) }
-    ensures others { H.tells → (n : DiskNameValue) → n ≢ task_disk → SameAt H.folder H.images H.images_since H.call_number host.old host.new n }
-    ensures entered { HasEntered (stops_with result) → (word folder : List ℕ) → map string_bytes words.now ≡ word ∷ folder ∷ [] → H.entered host.new ≡ Some folder }
+    ensures refused { stops_with result ≡ 2 → (IsCommand (map string_bytes words.now) → ⊥)
+        × (host.new ≡ host.old) }
+    ensures others { H.tells → (n : DiskNameValue) → n ≢ task_disk
+        → SameAt H.folder H.images H.images_since H.call_number host.old host.new n }
+    ensures entered { HasEntered (stops_with result) → (word folder : List ℕ)
+        → map string_bytes words.now ≡ word ∷ folder ∷ [] → H.entered host.new ≡ Some folder }
     ensures back { NoneOut (H.disks_out host.new) (H.shelves_out host.new) }
-    ensures device { stops_with result ≡ 4 → Rose (H.fault_count host.old) (H.fault_count host.new) }
+    ensures device { stops_with result ≡ 4
+        → Rose (H.fault_count host.old) (H.fault_count host.new) }
     ensures later { H.fault_count host.old ≤ H.fault_count host.new }
 {
     let folder = match read_words(words) {
@@ -99,34 +119,49 @@ pub fn samza_main<H: Host, W: Sink, E: Sink>(
 
     // Whatever the status, a crash at any moment of the run leaves of the task's files the checkpoint before or the next one, each
     // with just its contents; and so they read at the end.
-    ensures any_moment { H.tells → LeavesAt H.folder H.images H.images_since H.call_number host.old host.new task_disk (FolderLeaves (H.folder host.old) result) }
+    ensures any_moment { H.tells
+        → LeavesAt H.folder H.images H.images_since H.call_number host.old host.new task_disk
+        (FolderLeaves (H.folder host.old) result) }
 
     // It ends well, for a cause, or unheard.
-    ensures well { result ≡ 0 → EndsWell H.tells W.tells H.folder H.images W.received host.old host.new out.old out.new }
-    ensures stopped { result ≢ 0 → result ≢ 7 → StopsFor H.tells E.tells H.folder E.received (map string_bytes words.now) host.old result err.old err.new }
-    ensures unheard { result ≡ 7 →
-        (CutsReport H.tells W.tells H.folder H.images W.received W.fault_count host.old host.new out.old out.new
-        × Tried E.tells sink_line (E.received err.old) (E.received err.new) (E.fault_count err.old) (E.fault_count err.new))
-        ⊎ ((out.new ≡ out.old) × CutsLine H.tells E.tells H.folder E.received E.fault_count (map string_bytes words.now) host.old err.old err.new) }
+    ensures well { result ≡ 0
+        → EndsWell H.tells W.tells H.folder H.images W.received host.old host.new out.old out.new }
+    ensures stopped { result ≢ 0 → result ≢ 7
+        → StopsFor H.tells E.tells H.folder E.received (map string_bytes words.now) host.old result
+        err.old err.new }
+    ensures unheard { result ≡ 7
+        → (CutsReport H.tells W.tells H.folder H.images W.received W.fault_count host.old host.new
+        out.old out.new
+        × Tried E.tells sink_line (E.received err.old) (E.received err.new) (E.fault_count err.old)
+        (E.fault_count err.new))
+        ⊎ ((out.new ≡ out.old)
+        × CutsLine H.tells E.tells H.folder E.received E.fault_count (map string_bytes words.now)
+        host.old err.old err.new) }
     ensures out_kept { result ≢ 0 → result ≢ 7 → out.new ≡ out.old }
     ensures err_kept { result ≡ 0 → err.new ≡ err.old }
 
     // A folder that can be run is run, where no count of faults rises and memory isn't refused.
-    ensures complete { H.tells → IsCommand (map string_bytes words.now) → Runnable (H.folder host.old)
-        → NothingFails H.fault_count W.fault_count E.fault_count host.old host.new out.old out.new err.old err.new → (result ≡ 0) ⊎ (result ≡ 8) }
+    ensures complete { H.tells → IsCommand (map string_bytes words.now)
+        → Runnable (H.folder host.old)
+        → NothingFails H.fault_count W.fault_count E.fault_count host.old host.new out.old out.new
+        err.old err.new → (result ≡ 0) ⊎ (result ≡ 8) }
 
     // Words that are no command leave every disk as it was; else the folder that the words name is entered.
-    ensures no_command { (IsCommand (map string_bytes words.now) → ⊥) → (result ≡ 2) ⊎ ((result ≡ 7) ⊎ (result ≡ 8)) }
+    ensures no_command { (IsCommand (map string_bytes words.now) → ⊥) → (result ≡ 2)
+        ⊎ ((result ≡ 7) ⊎ (result ≡ 8)) }
     ensures command { result ≡ 2 → IsCommand (map string_bytes words.now) → ⊥ }
     ensures untouched { (IsCommand (map string_bytes words.now) → ⊥) → host.new ≡ host.old }
-    ensures entered { HasEntered result → (word folder : List ℕ) → map string_bytes words.now ≡ word ∷ folder ∷ [] → H.entered host.new ≡ Some folder }
+    ensures entered { HasEntered result → (word folder : List ℕ)
+        → map string_bytes words.now ≡ word ∷ folder ∷ [] → H.entered host.new ≡ Some folder }
 
     // What else it leaves.
-    ensures others { H.tells → (n : DiskNameValue) → n ≢ task_disk → SameAt H.folder H.images H.images_since H.call_number host.old host.new n }
+    ensures others { H.tells → (n : DiskNameValue) → n ≢ task_disk
+        → SameAt H.folder H.images H.images_since H.call_number host.old host.new n }
     ensures back { NoneOut (H.disks_out host.new) (H.shelves_out host.new) }
     ensures device { result ≡ 4 → Rose (H.fault_count host.old) (H.fault_count host.new) }
     ensures later { H.fault_count host.old ≤ H.fault_count host.new }
-    ensures later_sinks { (W.fault_count out.old ≤ W.fault_count out.new) × (E.fault_count err.old ≤ E.fault_count err.new) }
+    ensures later_sinks { (W.fault_count out.old ≤ W.fault_count out.new)
+        × (E.fault_count err.old ≤ E.fault_count err.new) }
 {
     match run(alloc, words, host) {
         Ok(report) => put_report(alloc, &report, out, err),

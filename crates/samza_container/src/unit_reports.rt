@@ -12,7 +12,8 @@ fn input_reports<'j, J: Job, D: Disk, S: Shelf>(
     alloc: Global,
     unit: &OneUnit<'j, J, D, S>,
 ) -> Result<Vec<InputReport>, NoMemory>
-    ensures { IfOk result (λ r. r.items ≡ input_report unit.now.setup unit.now.next (length unit.now.messages) ∷ []) }
+    ensures { IfOk result (λ r. r.items ≡ input_report unit.now.setup unit.now.next
+        (length unit.now.messages) ∷ []) }
 {
     let lane = unit.lane();
     let mut reports = Vec::new(alloc);
@@ -28,7 +29,9 @@ fn store_reports<'j, J: Job, D: Disk, S: Shelf>(
     alloc: Global,
     unit: &OneUnit<'j, J, D, S>,
 ) -> Result<Vec<StoreReport>, NoMemory>
-    ensures { IfOk result (λ r. AreRows (length unit.now.setup.stores) (store_report unit.now.setup unit.now.state.stores) r.items) }
+    ensures { IfOk result
+        (λ r. AreRows (length unit.now.setup.stores)
+        (store_report unit.now.setup unit.now.state.stores) r.items) }
 {
     let stores = unit.setup().stores.as_slice();
     let mut reports = Vec::new(alloc);
@@ -45,7 +48,9 @@ fn output_reports<'j, J: Job, D: Disk, S: Shelf>(
     alloc: Global,
     unit: &OneUnit<'j, J, D, S>,
 ) -> Result<Vec<OutputReport>, NoMemory>
-    ensures { IfOk result (λ r. AreRows (length unit.now.setup.outputs) (output_report unit.now.setup (sent_by unit.now)) r.items) }
+    ensures { IfOk result
+        (λ r. AreRows (length unit.now.setup.outputs)
+        (output_report unit.now.setup (sent_by unit.now)) r.items) }
 {
     let outputs = unit.setup().outputs.as_slice();
     let mut reports = Vec::new(alloc);

@@ -23,7 +23,9 @@ fn is_run(word: &[u8]) -> bool
 ///
 /// The words are those behind the program's name.
 pub(crate) fn read_words(words: &[String]) -> Result<&str, u64>
-    ensures command { IfOk result (λ folder. (map string_bytes words.now ≡ codes "run" ∷ folder.now ∷ []) × IsFolder folder.now) }
+    ensures command { IfOk result
+        (λ folder. (map string_bytes words.now ≡ codes "run" ∷ folder.now ∷ [])
+        × IsFolder folder.now) }
     ensures refused { IfErr result (λ place. IsReadTo (map string_bytes words.now) place) }
 {
     if words.is_empty() || !is_run(words[0].as_bytes()) {

@@ -17,7 +17,8 @@ pub trait Job {
 
     /// The next act on a message.
     fn act(&self, alloc: Global, envelope: &Envelope, answers: &[Answer]) -> Result<Act, NoMemory>
-        ensures { IfOk result (λ act. act ≡ (meaning (plain self.now)).act envelope.now answers.now) };
+        ensures { IfOk result (λ act. act ≡ (meaning (plain self.now)).act envelope.now
+            answers.now) };
 
     /// The next act of a window.
     fn window(&self, alloc: Global, answers: &[Answer]) -> Result<Act, NoMemory>

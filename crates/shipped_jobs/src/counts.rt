@@ -31,7 +31,8 @@ pub(crate) fn decimal_of(alloc: Global, number: u64) -> Result<Bin, NoMemory>
 }
 
 fn number_in(text: &[u8]) -> Option<u64>
-    ensures { MatchOption result ((n : ℕ) → n < 2 ^ 64 → decimal n ≡ text.now → ⊥) (λ n. (m : ℕ) → m < 2 ^ 64 → decimal m ≡ text.now → m ≡ n) }
+    ensures { MatchOption result ((n : ℕ) → n < 2 ^ 64 → decimal n ≡ text.now → ⊥) (λ n. (m : ℕ)
+        → m < 2 ^ 64 → decimal m ≡ text.now → m ≡ n) }
 {
     match from_utf8(text) {
         Ok(digits) => digits.parse::<u64>().ok(),

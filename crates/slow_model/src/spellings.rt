@@ -41,8 +41,10 @@ pub fn spell_log(alloc: Global, frames: &[Items<Record>]) -> Result<Bin, NoMemor
 /// The bytes of a checkpoint file that has this one checkpoint. The file ends with it if its number is 1.
 pub fn spell_checkpoint(alloc: Global, c: &Checkpoint) -> Result<Bin, NoMemory>
     requires { IsWellFormed c.now }
-    ensures spelled { IfOk result (λ bytes. bytes ≡ spelled ((checkpoint_record c.now ∷ []) ∷ []) ++ 0x43 ∷ []) }
-    ensures ends { IfOk result (λ bytes. c.now.id ≡ 1 → (frames : List (List RecordValue)) × HasFrames bytes frames × EndsWith frames c.now) }
+    ensures spelled { IfOk result (λ bytes. bytes ≡ spelled ((checkpoint_record c.now ∷ []) ∷ [])
+        ++ 0x43 ∷ []) }
+    ensures ends { IfOk result (λ bytes. c.now.id ≡ 1 → (frames : List (List RecordValue))
+        × HasFrames bytes frames × EndsWith frames c.now) }
 {
     let mut records = Vec::new(alloc);
     records.push(encode_checkpoint(alloc, c)?)?;

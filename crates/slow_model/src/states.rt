@@ -47,7 +47,8 @@ impl PlainState {
     }
 
     fn found_at(&self, alloc: Global, store: u32, key: &Bin) -> Result<Answer, NoMemory>
-        ensures { IfOk result (λ answer. answer ≡ found (map.get (store_at self.now.stores store) key.now)) }
+        ensures { IfOk result
+            (λ answer. answer ≡ found (map.get (store_at self.now.stores store) key.now)) }
     {
         let number = store as usize;
         if number >= self.stores.len() {
@@ -60,7 +61,8 @@ impl PlainState {
     }
 
     fn next_at(&self, alloc: Global, store: u32, key: &Bin) -> Result<Answer, NoMemory>
-        ensures { IfOk result (λ answer. answer ≡ found_pair (next_pair (store_at self.now.stores store) key.now)) }
+        ensures { IfOk result
+            (λ answer. answer ≡ found_pair (next_pair (store_at self.now.stores store) key.now)) }
     {
         let number = store as usize;
         if number >= self.stores.len() {
@@ -84,7 +86,12 @@ impl PlainState {
     }
 
     fn set(&mut self, store: u32, key: Bin, value: Option<Bin>) -> Result<(), NoMemory>
-        ensures { OnOk result (self.new ≡ record { stores = slice_set self.old.stores store (updated (store_at self.old.stores store) key value); sent = self.old.sent }) }
+        ensures { OnOk result
+            (self.new ≡ record {
+              stores = slice_set self.old.stores store
+                  (updated (store_at self.old.stores store) key value);
+              sent = self.old.sent;
+            }) }
     {
         let number = store as usize;
         if number < self.stores.len() {
@@ -94,7 +101,12 @@ impl PlainState {
     }
 
     fn send(&mut self, alloc: Global, output: u32, body: Record) -> Result<(), NoMemory>
-        ensures { OnOk result (self.new ≡ record { stores = self.old.stores; sent = slice_set self.old.sent output (sent_at self.old.sent output ++ body ∷ []) }) }
+        ensures { OnOk result
+            (self.new ≡ record {
+              stores = self.old.stores;
+              sent = slice_set self.old.sent output
+                  (sent_at self.old.sent output ++ body ∷ []);
+            }) }
     {
         let number = output as usize;
         if number < self.sent.len() {

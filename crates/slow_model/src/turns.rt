@@ -16,7 +16,8 @@ fn run_on<J: Job>(
     state: &mut PlainState,
     mut answers: Vec<Answer>,
 ) -> Result<Option<Why>, NoMemory>
-    ensures { IfOk result (λ end. run_on (J.meaning (J.plain job.now)) setup.now envelope.now left state.old answers.items ≡ record { state = state.new; end = end }) }
+    ensures { IfOk result (λ end. run_on (J.meaning (J.plain job.now)) setup.now envelope.now left
+        state.old answers.items ≡ record { state = state.new; end = end }) }
 {
     let act = job.act(alloc, envelope, answers.as_slice())?;
     if let Some(end) = end_at(setup, &act) {
@@ -39,7 +40,8 @@ pub fn run_one<J: Job>(
     envelope: &Envelope,
     state: &mut PlainState,
 ) -> Result<Option<Why>, NoMemory>
-    ensures { IfOk result (λ end. runs (J.meaning (J.plain job.now)) setup.now envelope.now state.old ≡ record { state = state.new; end = end }) }
+    ensures { IfOk result (λ end. runs (J.meaning (J.plain job.now)) setup.now envelope.now
+        state.old ≡ record { state = state.new; end = end }) }
 {
     run_on(alloc, job, setup, envelope, 1_023, state, Vec::new(alloc))
 }
@@ -52,7 +54,8 @@ pub fn fold_all<J: Job>(
     envelopes: &[Envelope],
     state: PlainState,
 ) -> Result<Option<PlainState>, NoMemory>
-    ensures { IfOk result (λ left. left ≡ folds (J.meaning (J.plain job.now)) setup.now envelopes.now state) }
+    ensures { IfOk result (λ left. left ≡ folds (J.meaning (J.plain job.now)) setup.now
+        envelopes.now state) }
 {
     let mut state = state;
     for envelope in envelopes {

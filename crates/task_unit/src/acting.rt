@@ -38,7 +38,8 @@ pub(crate) struct Holdings {
 
 impl Holdings {
     pub(crate) fn new(alloc: Global, stores: Vec<TrackedTable>, outputs: Outputs) -> Holdings
-        ensures held { held result ≡ record { stores = stores.items; unsent = outputs.unsent; cleared = outputs.cleared } }
+        ensures held { held result
+            ≡ record { stores = stores.items; unsent = outputs.unsent; cleared = outputs.cleared } }
         ensures undos { undos_of result ≡ [] }
     {
         Holdings {
@@ -64,7 +65,8 @@ impl Holdings {
     /// Takes all acts of the message back, the newest first.
     fn take_back(&mut self)
         requires { (first : Held) × LeadsTo (held self.old) (reverse (undos_of self.old)) first }
-        ensures held { (first : Held) → LeadsTo (held self.old) (reverse (undos_of self.old)) first → held self.new ≡ first }
+        ensures held { (first : Held) → LeadsTo (held self.old) (reverse (undos_of self.old)) first
+            → held self.new ≡ first }
         ensures undos { undos_of self.new ≡ [] }
     {
         while let Some(undone) = self.undos.pop() {
@@ -77,7 +79,8 @@ impl Holdings {
         requires store { store < length (held self.old).stores }
         requires key { length key ≤ key_limit }
         requires value { IfSome value (λ v. length v ≤ value_limit) }
-        ensures held { IfOk result (λ a. (a ≡ Answer.Noted) × (held self.new ≡ with_stored (held self.old) store key value)) }
+        ensures held { IfOk result (λ a. (a ≡ Answer.Noted)
+            × (held self.new ≡ with_stored (held self.old) store key value)) }
         ensures err { OnErr result (held self.new ≡ held self.old) }
         ensures back { GoesBack self.old self.new }
     {
@@ -91,7 +94,8 @@ impl Holdings {
     fn send(&mut self, output: u32, body: Record) -> Result<Answer, NoMemory>
         requires output { output < length (held self.old).unsent }
         requires limits { IsWithinLimits body }
-        ensures held { IfOk result (λ a. (a ≡ Answer.Noted) × (held self.new ≡ with_sent (held self.old) output body)) }
+        ensures held { IfOk result (λ a. (a ≡ Answer.Noted)
+            × (held self.new ≡ with_sent (held self.old) output body)) }
         ensures err { OnErr result (held self.new ≡ held self.old) }
         ensures back { GoesBack self.old self.new }
     {
@@ -106,9 +110,12 @@ impl Holdings {
         requires store { store < length (held self.old).stores }
         requires key { length key ≤ key_limit }
         requires value { length value ≤ value_limit }
-        ensures answered { IfOk result (λ a. a ≡ answer_of (state_of (held self.old)) (Act.Put store key value)) }
-        ensures made { OnOk result (state_of (held self.new) ≡ changed (state_of (held self.old)) (Act.Put store key value)) }
-        ensures touched { OnOk result (IsTouched (held self.old) (held self.new) (Act.Put store key value)) }
+        ensures answered { IfOk result
+            (λ a. a ≡ answer_of (state_of (held self.old)) (Act.Put store key value)) }
+        ensures made { OnOk result (state_of (held self.new) ≡ changed (state_of (held self.old))
+            (Act.Put store key value)) }
+        ensures touched { OnOk result
+            (IsTouched (held self.old) (held self.new) (Act.Put store key value)) }
         ensures back { GoesBack self.old self.new }
         ensures clean { KeepsClean (held self.old) (held self.new) }
         ensures sizes { SameSizes (held self.old) (held self.new) }
@@ -124,9 +131,12 @@ impl Holdings {
     fn delete(&mut self, store: u32, key: Bin) -> Result<Answer, NoMemory>
         requires store { store < length (held self.old).stores }
         requires key { length key ≤ key_limit }
-        ensures answered { IfOk result (λ a. a ≡ answer_of (state_of (held self.old)) (Act.Delete store key)) }
-        ensures made { OnOk result (state_of (held self.new) ≡ changed (state_of (held self.old)) (Act.Delete store key)) }
-        ensures touched { OnOk result (IsTouched (held self.old) (held self.new) (Act.Delete store key)) }
+        ensures answered { IfOk result
+            (λ a. a ≡ answer_of (state_of (held self.old)) (Act.Delete store key)) }
+        ensures made { OnOk result (state_of (held self.new) ≡ changed (state_of (held self.old))
+            (Act.Delete store key)) }
+        ensures touched { OnOk result
+            (IsTouched (held self.old) (held self.new) (Act.Delete store key)) }
         ensures back { GoesBack self.old self.new }
         ensures clean { KeepsClean (held self.old) (held self.new) }
         ensures sizes { SameSizes (held self.old) (held self.new) }
@@ -142,9 +152,12 @@ impl Holdings {
     fn send_body(&mut self, output: u32, body: Record) -> Result<Answer, NoMemory>
         requires output { output < length (held self.old).unsent }
         requires limits { IsWithinLimits body }
-        ensures answered { IfOk result (λ a. a ≡ answer_of (state_of (held self.old)) (Act.Send output body)) }
-        ensures made { OnOk result (state_of (held self.new) ≡ changed (state_of (held self.old)) (Act.Send output body)) }
-        ensures touched { OnOk result (IsTouched (held self.old) (held self.new) (Act.Send output body)) }
+        ensures answered { IfOk result
+            (λ a. a ≡ answer_of (state_of (held self.old)) (Act.Send output body)) }
+        ensures made { OnOk result (state_of (held self.new) ≡ changed (state_of (held self.old))
+            (Act.Send output body)) }
+        ensures touched { OnOk result
+            (IsTouched (held self.old) (held self.new) (Act.Send output body)) }
         ensures back { GoesBack self.old self.new }
         ensures clean { KeepsClean (held self.old) (held self.new) }
         ensures sizes { SameSizes (held self.old) (held self.new) }
@@ -158,7 +171,8 @@ impl Holdings {
 
     fn look_up(&self, store: u32, key: &Bin) -> Result<Answer, NoMemory>
         requires { store < length (held self.now).stores }
-        ensures { IfOk result (λ a. a ≡ found (map.get (tracked_at (held self.now).stores store).content key.now)) }
+        ensures { IfOk result
+            (λ a. a ≡ found (map.get (tracked_at (held self.now).stores store).content key.now)) }
     {
         match self.stores[store as usize].get(key) {
             Some(value) => Ok(Answer::Found(value.copy(self.alloc)?)),
@@ -169,7 +183,8 @@ impl Holdings {
     /// A key's value.
     fn get(&self, store: u32, key: &Bin) -> Result<Answer, NoMemory>
         requires { store < length (held self.now).stores }
-        ensures { IfOk result (λ a. a ≡ answer_of (state_of (held self.now)) (Act.Get store key.now)) }
+        ensures { IfOk result
+            (λ a. a ≡ answer_of (state_of (held self.now)) (Act.Get store key.now)) }
     {
         match self.look_up(store, key) {
             Ok(answer) => Ok(answer),
@@ -179,7 +194,9 @@ impl Holdings {
 
     fn look_next(&self, store: u32, key: &Bin) -> Result<Answer, NoMemory>
         requires { store < length (held self.now).stores }
-        ensures { IfOk result (λ a. a ≡ found_pair (next_pair (tracked_at (held self.now).stores store).content key.now)) }
+        ensures { IfOk result
+            (λ a. a ≡ found_pair (next_pair (tracked_at (held self.now).stores store).content
+            key.now)) }
     {
         match self.stores[store as usize].next(key) {
             Some((key, value)) => Ok(Answer::Pair(key.copy(self.alloc)?, value.copy(self.alloc)?)),
@@ -190,7 +207,8 @@ impl Holdings {
     /// The pair with the least key that isn't below this one.
     fn next(&self, store: u32, key: &Bin) -> Result<Answer, NoMemory>
         requires { store < length (held self.now).stores }
-        ensures { IfOk result (λ a. a ≡ answer_of (state_of (held self.now)) (Act.Next store key.now)) }
+        ensures { IfOk result
+            (λ a. a ≡ answer_of (state_of (held self.now)) (Act.Next store key.now)) }
     {
         match self.look_next(store, key) {
             Ok(answer) => Ok(answer),
@@ -203,7 +221,8 @@ impl Holdings {
         requires fits { act_fits setup.now act ≡ true }
         requires sized { IsSized setup.now (held self.old) }
         ensures answered { IfOk result (λ a. a ≡ answer_of (state_of (held self.old)) act) }
-        ensures made { OnOk result (state_of (held self.new) ≡ changed (state_of (held self.old)) act) }
+        ensures made { OnOk result (state_of (held self.new) ≡ changed (state_of (held self.old))
+            act) }
         ensures touched { OnOk result (IsTouched (held self.old) (held self.new) act) }
         ensures back { GoesBack self.old self.new }
         ensures clean { KeepsClean (held self.old) (held self.new) }
@@ -230,8 +249,12 @@ impl Holdings {
         envelope: &Envelope,
     ) -> Result<Option<Why>, NoMemory>
         requires { IsSized setup.now (held self.old) }
-        ensures ran { IfOk result (λ end. runs (J.meaning (J.plain job.now)) setup.now envelope.now (state_of (held self.old)) ≡ record { state = state_of (held self.new); end = end }) }
-        ensures touched { OnOk result (AreTouched (held self.old) (held self.new) (acts_of (J.meaning (J.plain job.now)) setup.now envelope.now (state_of (held self.old)))) }
+        ensures ran { IfOk result (λ end. runs (J.meaning (J.plain job.now)) setup.now envelope.now
+            (state_of (held self.old)) ≡ record { state = state_of (held self.new); end = end }) }
+        ensures touched { OnOk result
+            (AreTouched (held self.old) (held self.new)
+            (acts_of (J.meaning (J.plain job.now)) setup.now envelope.now
+            (state_of (held self.old)))) }
         ensures back { GoesBack self.old self.new }
         ensures clean { KeepsClean (held self.old) (held self.new) }
         ensures sized { IsSized setup.now (held self.new) }
@@ -263,9 +286,16 @@ impl Holdings {
     ) -> Result<Option<Why>, NoMemory>
         requires idle { undos_of self.old ≡ [] }
         requires sized { IsSized setup.now (held self.old) }
-        ensures ended { IfOk result (λ end. (runs (J.meaning (J.plain job.now)) setup.now envelope.now (state_of (held self.old))).end ≡ end) }
-        ensures done { result ≡ Ok None → (runs (J.meaning (J.plain job.now)) setup.now envelope.now (state_of (held self.old))).state ≡ state_of (held self.new) }
-        ensures touched { result ≡ Ok None → AreTouched (held self.old) (held self.new) (acts_of (J.meaning (J.plain job.now)) setup.now envelope.now (state_of (held self.old))) }
+        ensures ended { IfOk result
+            (λ end. (runs (J.meaning (J.plain job.now)) setup.now envelope.now
+            (state_of (held self.old))).end ≡ end) }
+        ensures done { result ≡ Ok None
+            → (runs (J.meaning (J.plain job.now)) setup.now envelope.now
+            (state_of (held self.old))).state ≡ state_of (held self.new) }
+        ensures touched { result ≡ Ok None
+            → AreTouched (held self.old) (held self.new)
+            (acts_of (J.meaning (J.plain job.now)) setup.now envelope.now
+            (state_of (held self.old))) }
         ensures failed { (why : Why) → result ≡ Ok (Some why) → held self.new ≡ held self.old }
         ensures err { OnErr result (held self.new ≡ held self.old) }
         ensures clean { KeepsClean (held self.old) (held self.new) }
@@ -357,8 +387,12 @@ fn next_step<J: Job>(
     envelope: &Envelope,
     answers: &[Answer],
 ) -> Result<Step, NoMemory>
-    ensures makes { IfOk result (λ n. (a : ActValue) → n ≡ Step.Makes a → (a ≡ (J.meaning (J.plain job.now)).act envelope.now answers.now) × (act_fits setup.now a ≡ true) × (end_at setup.now a ≡ None)) }
-    ensures ends { IfOk result (λ n. (end : End) → n ≡ Step.Ends end → end_at setup.now ((J.meaning (J.plain job.now)).act envelope.now answers.now) ≡ Some end) }
+    ensures makes { IfOk result (λ n. (a : ActValue) → n ≡ Step.Makes a
+        → (a ≡ (J.meaning (J.plain job.now)).act envelope.now answers.now)
+        × (act_fits setup.now a ≡ true) × (end_at setup.now a ≡ None)) }
+    ensures ends { IfOk result (λ n. (end : End) → n ≡ Step.Ends end
+        → end_at setup.now ((J.meaning (J.plain job.now)).act envelope.now answers.now)
+        ≡ Some end) }
 {
     let act = job.act(alloc, envelope, answers)?;
     match course_at(setup, &act) {

@@ -58,7 +58,8 @@ pub(crate) fn envelope_at(
     offset: u64,
 ) -> Result<Option<Envelope>, NoMemory>
     requires { length setup.now.inputs ≡ 1 }
-    ensures some { (e : EnvelopeValue) → result ≡ Ok (Some e) → IsMessage setup.now messages.now offset e }
+    ensures some { (e : EnvelopeValue) → result ≡ Ok (Some e)
+        → IsMessage setup.now messages.now offset e }
     ensures within { IfOk result (λ o. IfSome o (λ _. offset < length messages.now)) }
     ensures none { result ≡ Ok None → length messages.now ≤ offset }
 {
@@ -99,11 +100,13 @@ fn logs_of(alloc: Global, changelogs: Items<Changelog>) -> Result<Vec<Log>, NoMe
 /// An input's first offset: the kept one, unless there is none or the input is reset.
 #[tactic(auto, using(samza_model::proofs::Partitions::start_in, samza_model::proofs::Partitions::end_in))]
 fn first_offset(kept: Option<u64>, input: &InputSetup, end: u64) -> Result<u64, OpenFault>
-    ensures start { IfOk result (λ n. (records : List RecordValue) → end ≡ length records → n ≡ start_of kept input.now (partition_of records)) }
+    ensures start { IfOk result (λ n. (records : List RecordValue) → end ≡ length records
+        → n ≡ start_of kept input.now (partition_of records)) }
     ensures within { IfOk result (λ n. n ≤ end) }
     ensures never { IfErr result (λ e. e ≢ OpenFault.Device) }
     ensures told { (partition : ℕ) → IfErr result (TellsInput partition) }
-    ensures ahead { IfErr result (λ e. (next : ℕ) × (e ≡ OpenFault.Ahead (Some 0) None next end) × (kept ≡ Some next) × (input.now.reset ≡ false) × (end < next)) }
+    ensures ahead { IfErr result (λ e. (next : ℕ) × (e ≡ OpenFault.Ahead (Some 0) None next end)
+        × (kept ≡ Some next) × (input.now.reset ≡ false) × (end < next)) }
 {
     match kept {
         Some(next) if !input.reset => {
@@ -126,7 +129,8 @@ fn first_offset(kept: Option<u64>, input: &InputSetup, end: u64) -> Result<u64, 
 
 /// The first uncovered offset of the checkpoint's first input.
 fn kept_offset(mark: &Option<Checkpoint>) -> Option<u64>
-    ensures kept { (k : CheckpointValue) → mark.now ≡ Some k → 0 < length k.inputs → result ≡ next_at mark.now 0 }
+    ensures kept { (k : CheckpointValue) → mark.now ≡ Some k → 0 < length k.inputs
+        → result ≡ next_at mark.now 0 }
     ensures none { mark.now ≡ None → result ≡ None }
 {
     match mark {
@@ -151,7 +155,8 @@ fn hold(alloc: Global, stores: Vec<TrackedTable>, outputs: u32) -> Result<Holdin
     ensures stores { IfOk result (λ h. (held h).stores ≡ stores.items) }
     ensures outputs { IfOk result (λ h. length (held h).unsent ≡ outputs) }
     ensures none { IfOk result (λ h. (j : ℕ) → j < outputs → sent_at (held h).unsent j ≡ []) }
-    ensures none_before { IfOk result (λ h. (j : ℕ) → j < outputs → cleared_at (held h).cleared j ≡ 0) }
+    ensures none_before { IfOk result (λ h. (j : ℕ) → j < outputs
+        → cleared_at (held h).cleared j ≡ 0) }
     ensures idle { IfOk result (λ h. undos_of h ≡ []) }
 {
     let outputs = Outputs::new(alloc, outputs)?;
@@ -167,7 +172,8 @@ fn read_input<S: Shelf>(
     ensures log { IfOk result (λ records. S.tells → HasLog (S.bytes shelf.old) records.items) }
     ensures why { IfErr result (λ e. WhyNoInput S.tells (S.bytes shelf.old) partition e) }
     ensures told { IfErr result (TellsInput partition) }
-    ensures device { IfErr result (λ e. e ≡ OpenFault.Device → Rose (S.fault_count shelf.old) (S.fault_count shelf.new)) }
+    ensures device { IfErr result (λ e. e ≡ OpenFault.Device
+        → Rose (S.fault_count shelf.old) (S.fault_count shelf.new)) }
     ensures later { S.fault_count shelf.old ≤ S.fault_count shelf.new }
     ensures name { S.name shelf.new ≡ S.name shelf.old }
     ensures file { S.file shelf.new ≡ S.file shelf.old }
@@ -194,13 +200,17 @@ fn begin(
     next: u64,
 ) -> Result<Started, NoMemory>
     requires { All AreWithinLimits restored.tables }
-    ensures logs { IfOk result (λ r. (r.logs.marks ≡ restored.marks) × (r.logs.changelogs.items ≡ restored.changelogs) × (r.logs.outputs.items ≡ restored.outputs)) }
+    ensures logs { IfOk result (λ r. (r.logs.marks ≡ restored.marks)
+        × (r.logs.changelogs.items ≡ restored.changelogs)
+        × (r.logs.outputs.items ≡ restored.outputs)) }
     ensures mark { IfOk result (λ r. r.mark ≡ restored.checkpoint) }
     ensures contents { IfOk result (λ r. contents_of (held r.holdings).stores ≡ restored.tables) }
     ensures clean { IfOk result (λ r. AreClean (held r.holdings).stores) }
     ensures outputs { IfOk result (λ r. length (held r.holdings).unsent ≡ outputs) }
-    ensures none { IfOk result (λ r. (j : ℕ) → j < outputs → sent_at (held r.holdings).unsent j ≡ []) }
-    ensures none_before { IfOk result (λ r. (j : ℕ) → j < outputs → cleared_at (held r.holdings).cleared j ≡ 0) }
+    ensures none { IfOk result (λ r. (j : ℕ) → j < outputs
+        → sent_at (held r.holdings).unsent j ≡ []) }
+    ensures none_before { IfOk result (λ r. (j : ℕ) → j < outputs
+        → cleared_at (held r.holdings).cleared j ≡ 0) }
     ensures idle { IfOk result (λ r. undos_of r.holdings ≡ []) }
     ensures input { IfOk result (λ r. (r.messages.items ≡ messages.items) × (r.next ≡ next)) }
 {
@@ -228,32 +238,53 @@ pub(crate) fn start<D: Disk, S: Shelf>(
     shelf: &mut S,
 ) -> Result<Started, OpenFault>
     requires { IsSetUp setup.now }
-    ensures on_disk { IfOk result (λ r. D.tells → OnDisk (D.reads disk.new) (D.images disk.new) setup.now r.logs r.mark (held r.holdings)) }
-    ensures restored { IfOk result (λ r. D.tells → Restores setup.now (D.reads disk.old) r.mark (state_of (held r.holdings)).stores) }
-    ensures opens { IfOk result (λ r. D.tells → StoresOpen (D.reads disk.old) r.mark (length setup.now.stores)) }
-    ensures logs_stay { IfOk result (λ r. D.tells → LogsStay setup.now r.mark (D.reads disk.old) (D.reads disk.new)) }
-    ensures whole { IfOk result (λ r. D.tells → AreWhole setup.now (D.reads disk.new) (state_of (held r.holdings)).stores) }
-    ensures others { OnOk result (D.tells → OthersStay (length setup.now.stores) (length setup.now.outputs) (D.reads disk.old) (D.reads disk.new)) }
-    ensures refused_others { IfErr result (λ e. e ≢ OpenFault.Device → D.tells → OthersStay (length setup.now.stores) (length setup.now.outputs) (D.reads disk.old) (D.reads disk.new)) }
-    ensures unsent { IfOk result (λ r. (j : ℕ) → j < length setup.now.outputs → sent_at (held r.holdings).unsent j ≡ []) }
+    ensures on_disk { IfOk result (λ r. D.tells
+        → OnDisk (D.reads disk.new) (D.images disk.new) setup.now r.logs r.mark (held r.holdings)) }
+    ensures restored { IfOk result (λ r. D.tells
+        → Restores setup.now (D.reads disk.old) r.mark (state_of (held r.holdings)).stores) }
+    ensures opens { IfOk result (λ r. D.tells
+        → StoresOpen (D.reads disk.old) r.mark (length setup.now.stores)) }
+    ensures logs_stay { IfOk result (λ r. D.tells
+        → LogsStay setup.now r.mark (D.reads disk.old) (D.reads disk.new)) }
+    ensures whole { IfOk result (λ r. D.tells
+        → AreWhole setup.now (D.reads disk.new) (state_of (held r.holdings)).stores) }
+    ensures others { OnOk result (D.tells
+        → OthersStay (length setup.now.stores) (length setup.now.outputs) (D.reads disk.old)
+        (D.reads disk.new)) }
+    ensures refused_others { IfErr result (λ e. e ≢ OpenFault.Device → D.tells
+        → OthersStay (length setup.now.stores) (length setup.now.outputs) (D.reads disk.old)
+        (D.reads disk.new)) }
+    ensures unsent { IfOk result (λ r. (j : ℕ) → j < length setup.now.outputs
+        → sent_at (held r.holdings).unsent j ≡ []) }
     ensures messages { IfOk result (λ r. S.tells → HasLog (S.bytes shelf.old) r.messages.items) }
-    ensures start { IfOk result (λ r. r.next ≡ start_of (next_at r.mark 0) (input_of setup.now) (partition_of r.messages.items)) }
+    ensures start { IfOk result (λ r. r.next ≡ start_of (next_at r.mark 0) (input_of setup.now)
+        (partition_of r.messages.items)) }
     ensures within { IfOk result (λ r. r.next ≤ length r.messages.items) }
     ensures clean { IfOk result (λ r. AreClean (held r.holdings).stores) }
     ensures sized { IfOk result (λ r. IsSized setup.now (held r.holdings)) }
     ensures idle { IfOk result (λ r. undos_of r.holdings ≡ []) }
-    ensures changelogs { IfOk result (λ r. length r.logs.changelogs.items ≡ length setup.now.stores) }
+    ensures changelogs { IfOk result (λ r. length r.logs.changelogs.items
+        ≡ length setup.now.stores) }
     ensures outputs { IfOk result (λ r. length r.logs.outputs.items ≡ length setup.now.outputs) }
     ensures sound { IfOk result (λ r. AreSound r.logs) }
     ensures counted { IfOk result (λ r. count_of r.logs.marks ≡ id_of r.mark) }
-    ensures none_appended { IfOk result (λ r. (j : ℕ) → j < length setup.now.outputs → cleared_at (held r.holdings).cleared j ≡ 0) }
-    ensures why { IfErr result (λ e. WhyNotOpened D.tells S.tells setup.now (D.reads disk.old) (S.bytes shelf.old) e) }
+    ensures none_appended { IfOk result (λ r. (j : ℕ) → j < length setup.now.outputs
+        → cleared_at (held r.holdings).cleared j ≡ 0) }
+    ensures why { IfErr result (λ e. WhyNotOpened D.tells S.tells setup.now (D.reads disk.old)
+        (S.bytes shelf.old) e) }
     ensures told { IfErr result (TellsTask setup.now) }
-    ensures durable { IfOk result (λ r. D.tells → (c : Image) → D.images disk.new c → Restores setup.now c r.mark (state_of (held r.holdings)).stores) }
-    ensures logs_durable { IfOk result (λ r. D.tells → (c : Image) → D.images disk.new c → LogsStay setup.now r.mark (D.reads disk.old) c) }
-    ensures any_moment { D.tells → LeavesOnly D.call_number D.images D.images_since disk.old disk.new (OpeningLeaves setup.now) }
-    ensures device { IfErr result (λ e. e ≡ OpenFault.Device → Rose (D.fault_count disk.old) (D.fault_count disk.new) ⊎ Rose (S.fault_count shelf.old) (S.fault_count shelf.new)) }
-    ensures later { (D.fault_count disk.old ≤ D.fault_count disk.new) × (S.fault_count shelf.old ≤ S.fault_count shelf.new) }
+    ensures durable { IfOk result (λ r. D.tells → (c : Image) → D.images disk.new c
+        → Restores setup.now c r.mark (state_of (held r.holdings)).stores) }
+    ensures logs_durable { IfOk result (λ r. D.tells → (c : Image) → D.images disk.new c
+        → LogsStay setup.now r.mark (D.reads disk.old) c) }
+    ensures any_moment { D.tells
+        → LeavesOnly D.call_number D.images D.images_since disk.old disk.new
+        (OpeningLeaves setup.now) }
+    ensures device { IfErr result (λ e. e ≡ OpenFault.Device
+        → Rose (D.fault_count disk.old) (D.fault_count disk.new)
+        ⊎ Rose (S.fault_count shelf.old) (S.fault_count shelf.new)) }
+    ensures later { (D.fault_count disk.old ≤ D.fault_count disk.new)
+        × (S.fault_count shelf.old ≤ S.fault_count shelf.new) }
     ensures name { D.name disk.new ≡ D.name disk.old }
     ensures shelf { (S.name shelf.new ≡ S.name shelf.old) × (S.file shelf.new ≡ S.file shelf.old) }
 {

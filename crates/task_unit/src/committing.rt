@@ -36,7 +36,8 @@ pub(crate) fn plan_held(
 pub(crate) fn flush_all(stores: &mut Vec<TrackedTable>)
     ensures as_many { length stores.new.items ≡ length stores.old.items }
     ensures contents { contents_of stores.new.items ≡ contents_of stores.old.items }
-    ensures clean { (i : ℕ) → i < length stores.new.items → (tracked_at stores.new.items i).dirty ≡ no_keys }
+    ensures clean { (i : ℕ) → i < length stores.new.items
+        → (tracked_at stores.new.items i).dirty ≡ no_keys }
 {
     for i in 0..stores.len() {
         stores[i].flushed();

@@ -20,8 +20,10 @@ fn frame_in(alloc: Global, at: u64, bytes: &[u8]) -> Result<Decoded, LogFault>
     requires { at + length bytes.now < 2 ^ 62 }
     ensures within { IfOk result (λ d. d.used ≤ length bytes.now) }
     ensures limits { IfOk result (λ d. AllByRecursion IsWithinLimits d.records) }
-    ensures frame { (records : List Record) (used : ℕ) → frame_at bytes.now ≡ Ok (records, used) → IfOk result (λ d. (d.records ≡ records) × (d.used ≡ used)) }
-    ensures whole { (records : List Record) (used : ℕ) → frame_at bytes.now ≡ Ok (records, used) → IfErr result (λ e. e ≡ LogFault.NoMemory) }
+    ensures frame { (records : List Record) (used : ℕ) → frame_at bytes.now ≡ Ok (records, used)
+        → IfOk result (λ d. (d.records ≡ records) × (d.used ≡ used)) }
+    ensures whole { (records : List Record) (used : ℕ) → frame_at bytes.now ≡ Ok (records, used)
+        → IfErr result (λ e. e ≡ LogFault.NoMemory) }
     ensures fault { IfErr result IsWalkFault }
     ensures memory { IfErr result (λ e. e ≢ LogFault.Device) }
 {
@@ -53,12 +55,16 @@ fn fill_up<D: Disk>(
     bytes: &mut Vec<u8>,
 ) -> Result<(), LogFault>
     requires inside { D.tells → at + len ≤ length (D.reads disk.old file) }
-    requires so_far { D.tells → bytes.old.items ≡ take (length bytes.old.items) (drop at (D.reads disk.old file)) }
-    ensures bytes { OnOk result (D.tells → bytes.new.items ≡ take (length bytes.new.items) (drop at (D.reads disk.old file))) }
+    requires so_far { D.tells
+        → bytes.old.items ≡ take (length bytes.old.items) (drop at (D.reads disk.old file)) }
+    ensures bytes { OnOk result (D.tells
+        → bytes.new.items ≡ take (length bytes.new.items) (drop at (D.reads disk.old file))) }
     ensures len { OnOk result (len ≤ length bytes.new.items) }
-    ensures rests { D.tells → Rests D.reads D.call_number D.images D.images_since disk.old disk.new }
+    ensures rests { D.tells
+        → Rests D.reads D.call_number D.images D.images_since disk.old disk.new }
     ensures fault { IfErr result IsReadFault }
-    ensures device { IfErr result (λ e. e ≡ LogFault.Device → Rose (D.fault_count disk.old) (D.fault_count disk.new)) }
+    ensures device { IfErr result (λ e. e ≡ LogFault.Device
+        → Rose (D.fault_count disk.old) (D.fault_count disk.new)) }
     ensures later { D.fault_count disk.old ≤ D.fault_count disk.new }
     ensures name { D.name disk.new ≡ D.name disk.old }
 {
@@ -80,13 +86,17 @@ pub(crate) fn read_frame<D: Disk>(
     requires inside { D.tells → at + room ≤ length (D.reads disk.old file) }
     ensures within { IfOk result (λ d. d.used ≤ room) }
     ensures limits { IfOk result (λ d. AllByRecursion IsWithinLimits d.records) }
-    ensures frame { D.tells → (records : List Record) (rest : List ℕ) → IsFrameable records → take room (drop at (D.reads disk.old file)) ≡ frame_bytes records ++ rest
+    ensures frame { D.tells → (records : List Record) (rest : List ℕ) → IsFrameable records
+        → take room (drop at (D.reads disk.old file)) ≡ frame_bytes records ++ rest
         → IfOk result (λ d. (d.records ≡ records) × (d.used ≡ length (frame_bytes records))) }
-    ensures whole { D.tells → (records : List Record) (rest : List ℕ) → IsFrameable records → take room (drop at (D.reads disk.old file)) ≡ frame_bytes records ++ rest
+    ensures whole { D.tells → (records : List Record) (rest : List ℕ) → IsFrameable records
+        → take room (drop at (D.reads disk.old file)) ≡ frame_bytes records ++ rest
         → IfErr result (λ e. (place : ℕ) → e ≢ LogFault.Damaged place) }
-    ensures rests { D.tells → Rests D.reads D.call_number D.images D.images_since disk.old disk.new }
+    ensures rests { D.tells
+        → Rests D.reads D.call_number D.images D.images_since disk.old disk.new }
     ensures fault { IfErr result IsWalkFault }
-    ensures device { IfErr result (λ e. e ≡ LogFault.Device → Rose (D.fault_count disk.old) (D.fault_count disk.new)) }
+    ensures device { IfErr result (λ e. e ≡ LogFault.Device
+        → Rose (D.fault_count disk.old) (D.fault_count disk.new)) }
     ensures later { D.fault_count disk.old ≤ D.fault_count disk.new }
     ensures name { D.name disk.new ≡ D.name disk.old }
 {

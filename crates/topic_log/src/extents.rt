@@ -70,10 +70,12 @@ impl Extent {
 
     /// These frames more, each with a gate behind it. `None` where there are some and the file would pass its greatest size.
     pub(crate) fn behind(self, frames: &[Frame]) -> Option<Extent>
-        ensures limit { MatchOption result (LacksRoom (self.gate + 1) frames.now) (λ _. HasRoom (self.gate + 1) frames.now) }
+        ensures limit { MatchOption result (LacksRoom (self.gate + 1) frames.now)
+            (λ _. HasRoom (self.gate + 1) frames.now) }
         ensures count { IfSome result (λ e. e.count ≡ self.count + record_count frames.now) }
         ensures gate { IfSome result (λ e. e.gate ≡ self.gate + length (closed_frames frames.now)) }
-        ensures frames { IfSome result (λ e. (before lists : List (List Record)) → IsExtent self before → AreFrames frames.now lists → IsExtent e (before ++ lists)) }
+        ensures frames { IfSome result (λ e. (before lists : List (List Record))
+            → IsExtent self before → AreFrames frames.now lists → IsExtent e (before ++ lists)) }
     {
         if frames.is_empty() {
             return Some(self);

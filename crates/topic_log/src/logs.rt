@@ -43,20 +43,31 @@ impl Log {
     /// refused as `NoMemory`.
     pub fn open_log<D: Disk>(alloc: Global, disk: &mut D, file: u32) -> Result<Log, LogFault>
         // The log has the frames that the file had, in every image.
-        ensures opened { IfOk result (λ log. D.tells → (frames : List (List Record)) × HasFrames (D.reads disk.old file) frames × IsOpen (D.reads disk.new) (D.images disk.new) log frames) }
-        ensures left { IfOk result (λ log. D.tells → IsLeft (D.reads disk.old file) (D.reads disk.new file) (size_of log)) }
+        ensures opened { IfOk result (λ log. D.tells → (frames : List (List Record))
+            × HasFrames (D.reads disk.old file) frames
+            × IsOpen (D.reads disk.new) (D.images disk.new) log frames) }
+        ensures left { IfOk result (λ log. D.tells
+            → IsLeft (D.reads disk.old file) (D.reads disk.new file) (size_of log)) }
         ensures file { IfOk result (λ log. file_of log ≡ file) }
         ensures sound { IfOk result (λ log. is_broken log ≡ false) }
-        ensures elsewhere { OnOk result (D.tells → SameElsewhere file (D.reads disk.old) (D.reads disk.new)) }
+        ensures elsewhere { OnOk result (D.tells
+            → SameElsewhere file (D.reads disk.old) (D.reads disk.new)) }
 
         // A crash at any moment leaves the frames that the image had. After a refusal, but for `Device`, nothing was written.
-        ensures any_moment { D.tells → LeavesOnly D.call_number D.images D.images_since disk.old disk.new (KeepsFrames file) }
-        ensures untouched { IfErr result (λ e. e ≢ LogFault.Device → D.tells → (D.reads disk.new ≡ D.reads disk.old) × LeavesOnly D.call_number D.images D.images_since disk.old disk.new Same) }
+        ensures any_moment { D.tells
+            → LeavesOnly D.call_number D.images D.images_since disk.old disk.new
+            (KeepsFrames file) }
+        ensures untouched { IfErr result (λ e. e ≢ LogFault.Device → D.tells
+            → (D.reads disk.new ≡ D.reads disk.old)
+            × LeavesOnly D.call_number D.images D.images_since disk.old disk.new Same) }
         ensures others { D.tells → (log : Log) (frames : List (List Record)) → file_of log ≢ file
-            → IsOpen (D.reads disk.old) (D.images disk.old) log frames → IsOpen (D.reads disk.new) (D.images disk.new) log frames }
+            → IsOpen (D.reads disk.old) (D.images disk.old) log frames
+            → IsOpen (D.reads disk.new) (D.images disk.new) log frames }
 
-        ensures damaged { IfErr result (λ e. (at : ℕ) → e ≡ LogFault.Damaged at → D.tells → IsDamagedAt (D.reads disk.old file) at × HasNoLog (D.reads disk.old file)) }
-        ensures device { IfErr result (λ e. e ≡ LogFault.Device → Rose (D.fault_count disk.old) (D.fault_count disk.new)) }
+        ensures damaged { IfErr result (λ e. (at : ℕ) → e ≡ LogFault.Damaged at → D.tells
+            → IsDamagedAt (D.reads disk.old file) at × HasNoLog (D.reads disk.old file)) }
+        ensures device { IfErr result (λ e. e ≡ LogFault.Device
+            → Rose (D.fault_count disk.old) (D.fault_count disk.new)) }
         ensures never { IfErr result (λ e. (e ≢ LogFault.Limit) × (e ≢ LogFault.Broken)) }
         ensures later { D.fault_count disk.old ≤ D.fault_count disk.new }
         ensures name { D.name disk.new ≡ D.name disk.old }
@@ -105,9 +116,11 @@ impl Log {
 
     /// The place before the last batch, or `None` where the log has none.
     pub fn last(&self) -> Option<Place>
-        ensures last { (frames : List (List Record)) → HasExtent self.now frames → IsLastOf result frames }
+        ensures last { (frames : List (List Record)) → HasExtent self.now frames
+            → IsLastOf result frames }
         // On every outside it is before the log's end, and where there is none there are no records.
-        ensures inside { MatchOption result (count_of self.now ≡ 0) (λ place. place.byte + 1 < size_of self.now) }
+        ensures inside { MatchOption result (count_of self.now ≡ 0)
+            (λ place. place.byte + 1 < size_of self.now) }
     {
         self.extent.last
     }
@@ -115,9 +128,12 @@ impl Log {
     /// The number of records that the log has once these frames are appended, or `None` where its file would pass 2^40
     /// bytes by them. No frames pass nothing.
     pub fn len_behind(&self, frames: &[Frame]) -> Option<u64>
-        ensures limit { MatchOption result (LacksRoom (size_of self.now) frames.now) (λ _. HasRoom (size_of self.now) frames.now) }
+        ensures limit { MatchOption result (LacksRoom (size_of self.now) frames.now)
+            (λ _. HasRoom (size_of self.now) frames.now) }
         ensures counted { IfSome result (λ n. n ≡ count_of self.now + record_count frames.now) }
-        ensures count { IfSome result (λ n. (before lists : List (List Record)) → HasExtent self.now before → AreFrames frames.now lists → n ≡ length (joined (before ++ lists))) }
+        ensures count { IfSome result (λ n. (before lists : List (List Record))
+            → HasExtent self.now before → AreFrames frames.now lists
+            → n ≡ length (joined (before ++ lists))) }
     {
         match self.extent.behind(frames) {
             Some(extent) => Some(extent.count),
@@ -130,34 +146,50 @@ impl Log {
     /// `Limit` comes before any device call where the file would pass 2^40 bytes by these frames, and never for an empty list. After `Device` the log is broken, and
     /// answers `Broken` from then on.
     pub fn append_all<D: Disk>(&mut self, disk: &mut D, frames: &[Frame]) -> Result<u64, LogFault>
-        requires { D.tells → is_broken self.old ≡ false → (before : List (List Record)) × IsOpen (D.reads disk.old) (D.images disk.old) self.old before }
+        requires { D.tells → is_broken self.old ≡ false → (before : List (List Record))
+            × IsOpen (D.reads disk.old) (D.images disk.old) self.old before }
 
         ensures count { IfOk result (λ n. n ≡ count_of self.new) }
         ensures counted { IfOk result (λ n. n ≡ count_of self.old + record_count frames.now) }
         ensures file { file_of self.new ≡ file_of self.old }
 
         // The log has the frames before, followed by these, in every image.
-        ensures appended { OnOk result (D.tells → (before lists : List (List Record)) → IsOpen (D.reads disk.old) (D.images disk.old) self.old before → AreFrames frames.now lists
+        ensures appended { OnOk result (D.tells → (before lists : List (List Record))
+            → IsOpen (D.reads disk.old) (D.images disk.old) self.old before
+            → AreFrames frames.now lists
             → IsOpen (D.reads disk.new) (D.images disk.new) self.new (before ++ lists)) }
-        ensures grown { OnOk result (size_of self.new ≡ size_of self.old + length (closed_frames frames.now)) }
+        ensures grown { OnOk result
+            (size_of self.new ≡ size_of self.old + length (closed_frames frames.now)) }
         ensures idle { frames.now ≡ [] → disk.new ≡ disk.old }
-        ensures elsewhere { OnOk result (D.tells → SameElsewhere (file_of self.old) (D.reads disk.old) (D.reads disk.new)) }
+        ensures elsewhere { OnOk result (D.tells
+            → SameElsewhere (file_of self.old) (D.reads disk.old) (D.reads disk.new)) }
 
         // A crash at any moment leaves the frames before, or those followed by all of these.
-        ensures any_moment { D.tells → (before lists : List (List Record)) → IsOpen (D.reads disk.old) (D.images disk.old) self.old before → AreFrames frames.now lists
-            → LeavesOnly D.call_number D.images D.images_since disk.old disk.new (Appends (file_of self.old) before lists) }
-        ensures others { D.tells → (log : Log) (frames : List (List Record)) → file_of log ≢ file_of self.old
-            → IsOpen (D.reads disk.old) (D.images disk.old) log frames → IsOpen (D.reads disk.new) (D.images disk.new) log frames }
+        ensures any_moment { D.tells → (before lists : List (List Record))
+            → IsOpen (D.reads disk.old) (D.images disk.old) self.old before
+            → AreFrames frames.now lists
+            → LeavesOnly D.call_number D.images D.images_since disk.old disk.new
+            (Appends (file_of self.old) before lists) }
+        ensures others { D.tells → (log : Log) (frames : List (List Record))
+            → file_of log ≢ file_of self.old
+            → IsOpen (D.reads disk.old) (D.images disk.old) log frames
+            → IsOpen (D.reads disk.new) (D.images disk.new) log frames }
 
-        ensures ok { OnOk result ((is_broken self.old ≡ false) × HasRoom (size_of self.old) frames.now) }
+        ensures ok { OnOk result ((is_broken self.old ≡ false)
+            × HasRoom (size_of self.old) frames.now) }
         ensures broken { IfErr result (λ e. (e ≡ LogFault.Broken) ↔ (is_broken self.old ≡ true)) }
-        ensures limit { IfErr result (λ e. (e ≡ LogFault.Limit) ↔ ((is_broken self.old ≡ false) × LacksRoom (size_of self.old) frames.now)) }
-        ensures device { IfErr result (λ e. e ≡ LogFault.Device → Rose (D.fault_count disk.old) (D.fault_count disk.new)) }
-        ensures never { IfErr result (λ e. ((at : ℕ) → e ≢ LogFault.Damaged at) × (e ≢ LogFault.NoMemory)) }
+        ensures limit { IfErr result (λ e. (e ≡ LogFault.Limit)
+            ↔ ((is_broken self.old ≡ false) × LacksRoom (size_of self.old) frames.now)) }
+        ensures device { IfErr result (λ e. e ≡ LogFault.Device
+            → Rose (D.fault_count disk.old) (D.fault_count disk.new)) }
+        ensures never { IfErr result (λ e. ((at : ℕ) → e ≢ LogFault.Damaged at)
+            × (e ≢ LogFault.NoMemory)) }
 
         ensures sound { OnOk result (is_broken self.new ≡ false) }
-        ensures breaks { IfErr result (λ e. (is_broken self.new ≡ true) ↔ ((e ≡ LogFault.Broken) ⊎ (e ≡ LogFault.Device))) }
-        ensures refused { IfErr result (λ e. e ≢ LogFault.Device → (self.new ≡ self.old) × (disk.new ≡ disk.old)) }
+        ensures breaks { IfErr result (λ e. (is_broken self.new ≡ true)
+            ↔ ((e ≡ LogFault.Broken) ⊎ (e ≡ LogFault.Device))) }
+        ensures refused { IfErr result (λ e. e ≢ LogFault.Device → (self.new ≡ self.old)
+            × (disk.new ≡ disk.old)) }
         ensures extent { OnErr result (KeepsExtent self.old self.new) }
         ensures later { D.fault_count disk.old ≤ D.fault_count disk.new }
         ensures name { D.name disk.new ≡ D.name disk.old }
@@ -182,33 +214,51 @@ impl Log {
     /// Adds a frame's records, and answers the new number of records. It makes at most four device calls, and else is as
     /// `append_all`.
     pub fn append<D: Disk>(&mut self, disk: &mut D, frame: &Frame) -> Result<u64, LogFault>
-        requires { D.tells → is_broken self.old ≡ false → (before : List (List Record)) × IsOpen (D.reads disk.old) (D.images disk.old) self.old before }
+        requires { D.tells → is_broken self.old ≡ false → (before : List (List Record))
+            × IsOpen (D.reads disk.old) (D.images disk.old) self.old before }
 
         ensures count { IfOk result (λ n. n ≡ count_of self.new) }
         ensures counted { IfOk result (λ n. n ≡ count_of self.old + frame.now.count) }
         ensures file { file_of self.new ≡ file_of self.old }
 
         // The log has the frames before, followed by this one, in every image.
-        ensures appended { OnOk result (D.tells → (before : List (List Record)) (records : List Record) → IsOpen (D.reads disk.old) (D.images disk.old) self.old before → IsFrame frame.now records
+        ensures appended { OnOk result (D.tells
+            → (before : List (List Record)) (records : List Record)
+            → IsOpen (D.reads disk.old) (D.images disk.old) self.old before
+            → IsFrame frame.now records
             → IsOpen (D.reads disk.new) (D.images disk.new) self.new (before ++ records ∷ [])) }
-        ensures grown { OnOk result (size_of self.new ≡ size_of self.old + length frame.now.bytes + 1) }
-        ensures elsewhere { OnOk result (D.tells → SameElsewhere (file_of self.old) (D.reads disk.old) (D.reads disk.new)) }
+        ensures grown { OnOk result
+            (size_of self.new ≡ size_of self.old + length frame.now.bytes + 1) }
+        ensures elsewhere { OnOk result (D.tells
+            → SameElsewhere (file_of self.old) (D.reads disk.old) (D.reads disk.new)) }
 
         // A crash at any moment leaves the frames before, or those followed by this one.
-        ensures any_moment { D.tells → (before : List (List Record)) (records : List Record) → IsOpen (D.reads disk.old) (D.images disk.old) self.old before → IsFrame frame.now records
-            → LeavesOnly D.call_number D.images D.images_since disk.old disk.new (Appends (file_of self.old) before (records ∷ [])) }
-        ensures others { D.tells → (log : Log) (frames : List (List Record)) → file_of log ≢ file_of self.old
-            → IsOpen (D.reads disk.old) (D.images disk.old) log frames → IsOpen (D.reads disk.new) (D.images disk.new) log frames }
+        ensures any_moment { D.tells → (before : List (List Record)) (records : List Record)
+            → IsOpen (D.reads disk.old) (D.images disk.old) self.old before
+            → IsFrame frame.now records
+            → LeavesOnly D.call_number D.images D.images_since disk.old disk.new
+            (Appends (file_of self.old) before (records ∷ [])) }
+        ensures others { D.tells → (log : Log) (frames : List (List Record))
+            → file_of log ≢ file_of self.old
+            → IsOpen (D.reads disk.old) (D.images disk.old) log frames
+            → IsOpen (D.reads disk.new) (D.images disk.new) log frames }
 
-        ensures ok { OnOk result ((is_broken self.old ≡ false) × (size_of self.old + length frame.now.bytes + 1 ≤ file_limit)) }
+        ensures ok { OnOk result ((is_broken self.old ≡ false)
+            × (size_of self.old + length frame.now.bytes + 1 ≤ file_limit)) }
         ensures broken { IfErr result (λ e. (e ≡ LogFault.Broken) ↔ (is_broken self.old ≡ true)) }
-        ensures limit { IfErr result (λ e. (e ≡ LogFault.Limit) ↔ ((is_broken self.old ≡ false) × (file_limit < size_of self.old + length frame.now.bytes + 1))) }
-        ensures device { IfErr result (λ e. e ≡ LogFault.Device → Rose (D.fault_count disk.old) (D.fault_count disk.new)) }
-        ensures never { IfErr result (λ e. ((at : ℕ) → e ≢ LogFault.Damaged at) × (e ≢ LogFault.NoMemory)) }
+        ensures limit { IfErr result (λ e. (e ≡ LogFault.Limit)
+            ↔ ((is_broken self.old ≡ false)
+            × (file_limit < size_of self.old + length frame.now.bytes + 1))) }
+        ensures device { IfErr result (λ e. e ≡ LogFault.Device
+            → Rose (D.fault_count disk.old) (D.fault_count disk.new)) }
+        ensures never { IfErr result (λ e. ((at : ℕ) → e ≢ LogFault.Damaged at)
+            × (e ≢ LogFault.NoMemory)) }
 
         ensures sound { OnOk result (is_broken self.new ≡ false) }
-        ensures breaks { IfErr result (λ e. (is_broken self.new ≡ true) ↔ ((e ≡ LogFault.Broken) ⊎ (e ≡ LogFault.Device))) }
-        ensures refused { IfErr result (λ e. e ≢ LogFault.Device → (self.new ≡ self.old) × (disk.new ≡ disk.old)) }
+        ensures breaks { IfErr result (λ e. (is_broken self.new ≡ true)
+            ↔ ((e ≡ LogFault.Broken) ⊎ (e ≡ LogFault.Device))) }
+        ensures refused { IfErr result (λ e. e ≢ LogFault.Device → (self.new ≡ self.old)
+            × (disk.new ≡ disk.old)) }
         ensures extent { OnErr result (KeepsExtent self.old self.new) }
         ensures later { D.fault_count disk.old ≤ D.fault_count disk.new }
         ensures name { D.name disk.new ≡ D.name disk.old }
@@ -224,12 +274,17 @@ impl Log {
         disk: &mut D,
         place: Place,
     ) -> Result<Option<(Items<Record>, Place)>, LogFault>
-        requires { D.tells → is_broken self.old ≡ false → (frames : List (List Record)) × ((before : List (List Record)) × HasPlace (D.reads disk.old) (D.images disk.old) self.old place frames before) }
+        requires { D.tells → is_broken self.old ≡ false → (frames : List (List Record))
+            × ((before : List (List Record))
+            × HasPlace (D.reads disk.old) (D.images disk.old) self.old place frames before) }
 
-        ensures batch { IfOk result (λ o. D.tells → (frames before : List (List Record)) → HasPlace (D.reads disk.old) (D.images disk.old) self.old place frames before → IsNext frames before o) }
+        ensures batch { IfOk result (λ o. D.tells → (frames before : List (List Record))
+            → HasPlace (D.reads disk.old) (D.images disk.old) self.old place frames before
+            → IsNext frames before o) }
 
         // The place behind is further on, and within the file; and the records are within the limits. Every disk gives that.
-        ensures forward { IfOk result (λ o. IfSome o (λ b. (place.byte < b.1.byte) × (b.1.byte < size_of self.old))) }
+        ensures forward { IfOk result (λ o. IfSome o (λ b. (place.byte < b.1.byte)
+            × (b.1.byte < size_of self.old))) }
         ensures limits { IfOk result (λ o. IfSome o (λ b. AllByRecursion IsWithinLimits b.0)) }
         ensures end { result ≡ Ok None → size_of self.old ≤ place.byte + 1 }
 
@@ -237,17 +292,24 @@ impl Log {
         ensures reads { D.tells → D.reads disk.new ≡ D.reads disk.old }
         ensures images { D.tells → Keeps (D.images disk.old) (D.images disk.new) }
         ensures none_lost { D.tells → Keeps (D.images disk.new) (D.images disk.old) }
-        ensures any_moment { D.tells → LeavesOnly D.call_number D.images D.images_since disk.old disk.new Same }
-        ensures stays { D.tells → (frames : List (List Record)) → IsOpen (D.reads disk.old) (D.images disk.old) self.old frames → IsOpen (D.reads disk.new) (D.images disk.new) self.new frames }
-        ensures others { D.tells → (log : Log) (frames : List (List Record)) → IsOpen (D.reads disk.old) (D.images disk.old) log frames → IsOpen (D.reads disk.new) (D.images disk.new) log frames }
+        ensures any_moment { D.tells
+            → LeavesOnly D.call_number D.images D.images_since disk.old disk.new Same }
+        ensures stays { D.tells → (frames : List (List Record))
+            → IsOpen (D.reads disk.old) (D.images disk.old) self.old frames
+            → IsOpen (D.reads disk.new) (D.images disk.new) self.new frames }
+        ensures others { D.tells → (log : Log) (frames : List (List Record))
+            → IsOpen (D.reads disk.old) (D.images disk.old) log frames
+            → IsOpen (D.reads disk.new) (D.images disk.new) log frames }
 
         ensures ok { OnOk result ((is_broken self.old ≡ false) × (self.new ≡ self.old)) }
         ensures broken { IfErr result (λ e. (e ≡ LogFault.Broken) ↔ (is_broken self.old ≡ true)) }
         ensures sane { IfErr result (λ e. D.tells → (at : ℕ) → e ≢ LogFault.Damaged at) }
-        ensures device { IfErr result (λ e. e ≡ LogFault.Device → Rose (D.fault_count disk.old) (D.fault_count disk.new)) }
+        ensures device { IfErr result (λ e. e ≡ LogFault.Device
+            → Rose (D.fault_count disk.old) (D.fault_count disk.new)) }
         ensures never { IfErr result (λ e. e ≢ LogFault.Limit) }
 
-        ensures breaks { IfErr result (λ e. (is_broken self.new ≡ true) ↔ ((e ≡ LogFault.Broken) ⊎ (e ≡ LogFault.Device))) }
+        ensures breaks { IfErr result (λ e. (is_broken self.new ≡ true)
+            ↔ ((e ≡ LogFault.Broken) ⊎ (e ≡ LogFault.Device))) }
         ensures kept { IfErr result (λ e. e ≢ LogFault.Device → self.new ≡ self.old) }
         ensures extent { OnErr result (KeepsExtent self.old self.new) }
         ensures file { file_of self.new ≡ file_of self.old }
@@ -280,7 +342,8 @@ fn behind(place: Place, decoded: Decoded) -> (Items<Record>, Place)
     requires { place.byte + 1 + decoded.used < 2 ^ 62 }
     ensures records { result.0 ≡ decoded.records }
     ensures byte { result.1.byte ≡ place.byte + 1 + decoded.used }
-    ensures index { place.index + length result.0 < 2 ^ 64 → result.1.index ≡ place.index + length result.0 }
+    ensures index { place.index + length result.0 < 2 ^ 64
+        → result.1.index ≡ place.index + length result.0 }
 {
     let Decoded { records, used } = decoded;
     let next = Place {

@@ -25,10 +25,13 @@ fn walk<D: Disk>(alloc: Global, disk: &mut D, file: u32, size: u64) -> Result<Ex
     requires size { D.tells → size ≡ length (D.reads disk.old file) }
     ensures reaches { IfOk result (λ e. D.tells → Reaches (D.reads disk.old file) e) }
     ensures inside { IfOk result (λ e. e.gate < size) }
-    ensures damaged { IfErr result (λ e. (at : ℕ) → e ≡ LogFault.Damaged at → D.tells → IsDamagedAt (D.reads disk.old file) at) }
-    ensures rests { D.tells → Rests D.reads D.call_number D.images D.images_since disk.old disk.new }
+    ensures damaged { IfErr result (λ e. (at : ℕ) → e ≡ LogFault.Damaged at → D.tells
+        → IsDamagedAt (D.reads disk.old file) at) }
+    ensures rests { D.tells
+        → Rests D.reads D.call_number D.images D.images_since disk.old disk.new }
     ensures fault { IfErr result IsWalkFault }
-    ensures device { IfErr result (λ e. e ≡ LogFault.Device → Rose (D.fault_count disk.old) (D.fault_count disk.new)) }
+    ensures device { IfErr result (λ e. e ≡ LogFault.Device
+        → Rose (D.fault_count disk.old) (D.fault_count disk.new)) }
     ensures later { D.fault_count disk.old ≤ D.fault_count disk.new }
     ensures name { D.name disk.new ≡ D.name disk.old }
 {
@@ -48,11 +51,14 @@ fn extent_of<D: Disk>(alloc: Global, disk: &mut D, file: u32, size: u64) -> Resu
     requires size { D.tells → size ≡ length (D.reads disk.old file) }
     ensures finds { IfOk result (λ e. D.tells → Finds (D.reads disk.old file) e) }
     ensures inside { IfOk result (λ e. 2 ≤ size → e.gate < size) }
-    ensures damaged { IfErr result (λ e. (at : ℕ) → e ≡ LogFault.Damaged at → D.tells → IsDamagedAt (D.reads disk.old file) at) }
+    ensures damaged { IfErr result (λ e. (at : ℕ) → e ≡ LogFault.Damaged at → D.tells
+        → IsDamagedAt (D.reads disk.old file) at) }
     ensures reads { D.tells → D.reads disk.new ≡ D.reads disk.old }
-    ensures moves { D.tells → Moves D.reads D.call_number D.images D.images_since disk.old disk.new Same }
+    ensures moves { D.tells
+        → Moves D.reads D.call_number D.images D.images_since disk.old disk.new Same }
     ensures fault { IfErr result IsWalkFault }
-    ensures device { IfErr result (λ e. e ≡ LogFault.Device → Rose (D.fault_count disk.old) (D.fault_count disk.new)) }
+    ensures device { IfErr result (λ e. e ≡ LogFault.Device
+        → Rose (D.fault_count disk.old) (D.fault_count disk.new)) }
     ensures later { D.fault_count disk.old ≤ D.fault_count disk.new }
     ensures name { D.name disk.new ≡ D.name disk.old }
 {
@@ -78,11 +84,14 @@ pub(crate) fn look<D: Disk>(alloc: Global, disk: &mut D, file: u32) -> Result<Fo
     ensures finds { IfOk result (λ f. D.tells → Finds (D.reads disk.old file) f.extent) }
     ensures inside { IfOk result (λ f. 2 ≤ f.size → f.extent.gate < f.size) }
     ensures durable { OnOk result (D.tells → Only file (D.reads disk.new) (D.images disk.new)) }
-    ensures damaged { IfErr result (λ e. (at : ℕ) → e ≡ LogFault.Damaged at → D.tells → IsDamagedAt (D.reads disk.old file) at) }
+    ensures damaged { IfErr result (λ e. (at : ℕ) → e ≡ LogFault.Damaged at → D.tells
+        → IsDamagedAt (D.reads disk.old file) at) }
     ensures reads { D.tells → D.reads disk.new ≡ D.reads disk.old }
-    ensures moves { D.tells → Moves D.reads D.call_number D.images D.images_since disk.old disk.new Same }
+    ensures moves { D.tells
+        → Moves D.reads D.call_number D.images D.images_since disk.old disk.new Same }
     ensures fault { IfErr result IsWalkFault }
-    ensures device { IfErr result (λ e. e ≡ LogFault.Device → Rose (D.fault_count disk.old) (D.fault_count disk.new)) }
+    ensures device { IfErr result (λ e. e ≡ LogFault.Device
+        → Rose (D.fault_count disk.old) (D.fault_count disk.new)) }
     ensures later { D.fault_count disk.old ≤ D.fault_count disk.new }
     ensures name { D.name disk.new ≡ D.name disk.old }
 {
@@ -99,7 +108,8 @@ fn lacks_gate<D: Disk>(disk: &mut D, file: u32, size: u64) -> Result<bool, LogFa
     ensures gate { IfOk result (λ b. D.tells → b ≡ false → IsGate (D.reads disk.old file)) }
     ensures lacks { IfOk result (λ b. D.tells → b ≡ true → LacksGate (D.reads disk.old file)) }
     ensures reads { D.tells → D.reads disk.new ≡ D.reads disk.old }
-    ensures moves { D.tells → Moves D.reads D.call_number D.images D.images_since disk.old disk.new Same }
+    ensures moves { D.tells
+        → Moves D.reads D.call_number D.images D.images_since disk.old disk.new Same }
     ensures fault { IfErr result (λ e. e ≡ LogFault.Device) }
     ensures device { OnErr result (Rose (D.fault_count disk.old) (D.fault_count disk.new)) }
     ensures later { D.fault_count disk.old ≤ D.fault_count disk.new }
@@ -118,9 +128,12 @@ fn put_gate<D: Disk>(disk: &mut D, file: u32, size: u64, gate: u64) -> Result<()
     requires short { size < 2 }
     requires size { D.tells → size ≡ length (D.reads disk.old file) }
     requires durable { D.tells → Only file (D.reads disk.old) (D.images disk.old) }
-    ensures settled { OnOk result (D.tells → Settled file gate (D.reads disk.old) (D.reads disk.new)) }
+    ensures settled { OnOk result (D.tells
+        → Settled file gate (D.reads disk.old) (D.reads disk.new)) }
     ensures durable { OnOk result (D.tells → Only file (D.reads disk.new) (D.images disk.new)) }
-    ensures moves { D.tells → Moves D.reads D.call_number D.images D.images_since disk.old disk.new (Repairs file gate) }
+    ensures moves { D.tells
+        → Moves D.reads D.call_number D.images D.images_since disk.old disk.new
+        (Repairs file gate) }
     ensures fault { IfErr result (λ e. e ≡ LogFault.Device) }
     ensures device { OnErr result (Rose (D.fault_count disk.old) (D.fault_count disk.new)) }
     ensures later { D.fault_count disk.old ≤ D.fault_count disk.new }
@@ -138,9 +151,12 @@ fn cut_behind<D: Disk>(disk: &mut D, file: u32, gate: u64) -> Result<(), LogFaul
     requires small { gate < 2 ^ 62 }
     requires long { D.tells → 2 ≤ length (D.reads disk.old file) }
     requires inside { D.tells → gate + 1 ≤ length (D.reads disk.old file) }
-    ensures settled { OnOk result (D.tells → Settled file gate (D.reads disk.old) (D.reads disk.new)) }
+    ensures settled { OnOk result (D.tells
+        → Settled file gate (D.reads disk.old) (D.reads disk.new)) }
     ensures durable { OnOk result (D.tells → Only file (D.reads disk.new) (D.images disk.new)) }
-    ensures moves { D.tells → Moves D.reads D.call_number D.images D.images_since disk.old disk.new (Repairs file gate) }
+    ensures moves { D.tells
+        → Moves D.reads D.call_number D.images D.images_since disk.old disk.new
+        (Repairs file gate) }
     ensures fault { IfErr result (λ e. e ≡ LogFault.Device) }
     ensures device { OnErr result (Rose (D.fault_count disk.old) (D.fault_count disk.new)) }
     ensures later { D.fault_count disk.old ≤ D.fault_count disk.new }
@@ -156,9 +172,12 @@ pub(crate) fn settle<D: Disk>(disk: &mut D, file: u32, size: u64, gate: u64) -> 
     requires inside { 2 ≤ size → gate < size }
     requires size { D.tells → size ≡ length (D.reads disk.old file) }
     requires durable { D.tells → Only file (D.reads disk.old) (D.images disk.old) }
-    ensures settled { OnOk result (D.tells → Settled file gate (D.reads disk.old) (D.reads disk.new)) }
+    ensures settled { OnOk result (D.tells
+        → Settled file gate (D.reads disk.old) (D.reads disk.new)) }
     ensures durable { OnOk result (D.tells → Only file (D.reads disk.new) (D.images disk.new)) }
-    ensures moves { D.tells → Moves D.reads D.call_number D.images D.images_since disk.old disk.new (Repairs file gate) }
+    ensures moves { D.tells
+        → Moves D.reads D.call_number D.images D.images_since disk.old disk.new
+        (Repairs file gate) }
     ensures fault { IfErr result (λ e. e ≡ LogFault.Device) }
     ensures device { OnErr result (Rose (D.fault_count disk.old) (D.fault_count disk.new)) }
     ensures later { D.fault_count disk.old ≤ D.fault_count disk.new }

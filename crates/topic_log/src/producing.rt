@@ -30,25 +30,36 @@ pub fn produce_one<D: Disk>(
 ) -> Result<u64, LogFault>
     requires { IsWithinLimits body.now }
 
-    ensures produced { IfOk result (λ n. D.tells → IsProduced (D.reads disk.old file) (D.reads disk.new file) body.now n) }
+    ensures produced { IfOk result (λ n. D.tells
+        → IsProduced (D.reads disk.old file) (D.reads disk.new file) body.now n) }
     // After Ok every image of the file is as it reads.
     ensures durable { OnOk result (D.tells → Only file (D.reads disk.new) (D.images disk.new)) }
-    ensures elsewhere { OnOk result (D.tells → SameElsewhere file (D.reads disk.old) (D.reads disk.new)) }
+    ensures elsewhere { OnOk result (D.tells
+        → SameElsewhere file (D.reads disk.old) (D.reads disk.new)) }
 
     // A crash at any moment leaves the frames that the image had, or those followed by the record. A file that is no log is as
     // before.
-    ensures any_moment { D.tells → LeavesOnly D.call_number D.images D.images_since disk.old disk.new (Produces file body.now) }
-    ensures others { D.tells → (log : LogValue) (frames : List (List RecordValue)) → file_of log ≢ file
-        → IsOpen (D.reads disk.old) (D.images disk.old) log frames → IsOpen (D.reads disk.new) (D.images disk.new) log frames }
+    ensures any_moment { D.tells
+        → LeavesOnly D.call_number D.images D.images_since disk.old disk.new
+        (Produces file body.now) }
+    ensures others { D.tells → (log : LogValue) (frames : List (List RecordValue))
+        → file_of log ≢ file → IsOpen (D.reads disk.old) (D.images disk.old) log frames
+        → IsOpen (D.reads disk.new) (D.images disk.new) log frames }
 
     // After a refusal, but for `Device`, the file has the frames that it had, in what a read gives and in every image since.
-    ensures refused { IfErr result (λ e. e ≢ LogFault.Device → D.tells → KeepsFrames file (D.reads disk.old) (D.reads disk.new)) }
-    ensures refused_images { IfErr result (λ e. e ≢ LogFault.Device → D.tells → LeavesOnly D.call_number D.images D.images_since disk.old disk.new (KeepsFrames file)) }
-    ensures untouched { IfErr result (λ e. (at : ℕ) → e ≡ LogFault.Damaged at → D.tells → D.reads disk.new ≡ D.reads disk.old) }
-    ensures damaged { IfErr result (λ e. (at : ℕ) → e ≡ LogFault.Damaged at → D.tells → IsDamagedAt (D.reads disk.old file) at × HasNoLog (D.reads disk.old file)) }
-    ensures limit { IfErr result (λ e. e ≡ LogFault.Limit → D.tells → IsFull (D.reads disk.old file) body.now) }
+    ensures refused { IfErr result (λ e. e ≢ LogFault.Device → D.tells
+        → KeepsFrames file (D.reads disk.old) (D.reads disk.new)) }
+    ensures refused_images { IfErr result (λ e. e ≢ LogFault.Device → D.tells
+        → LeavesOnly D.call_number D.images D.images_since disk.old disk.new (KeepsFrames file)) }
+    ensures untouched { IfErr result (λ e. (at : ℕ) → e ≡ LogFault.Damaged at → D.tells
+        → D.reads disk.new ≡ D.reads disk.old) }
+    ensures damaged { IfErr result (λ e. (at : ℕ) → e ≡ LogFault.Damaged at → D.tells
+        → IsDamagedAt (D.reads disk.old file) at × HasNoLog (D.reads disk.old file)) }
+    ensures limit { IfErr result (λ e. e ≡ LogFault.Limit → D.tells
+        → IsFull (D.reads disk.old file) body.now) }
     ensures room { OnOk result (D.tells → IsFull (D.reads disk.old file) body.now → ⊥) }
-    ensures device { IfErr result (λ e. e ≡ LogFault.Device → Rose (D.fault_count disk.old) (D.fault_count disk.new)) }
+    ensures device { IfErr result (λ e. e ≡ LogFault.Device
+        → Rose (D.fault_count disk.old) (D.fault_count disk.new)) }
     ensures never { IfErr result (λ e. e ≢ LogFault.Broken) }
     ensures later { D.fault_count disk.old ≤ D.fault_count disk.new }
     ensures name { D.name disk.new ≡ D.name disk.old }

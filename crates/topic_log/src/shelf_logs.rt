@@ -18,7 +18,8 @@ fn batch_in(alloc: Global, bytes: &[u8], gate: usize) -> Result<Option<Decoded>,
     requires small { length bytes.now < 2 ^ 62 }
     ensures within { IfOk result (λ o. IfSome o (λ d. gate + 1 + d.used ≤ length bytes.now)) }
     ensures batch { IfOk result (λ o. IsListed o (drop gate bytes.now)) }
-    ensures damaged { IfErr result (λ e. (at : ℕ) → e ≡ LogFault.Damaged at → IsDamage (drop gate bytes.now) gate at) }
+    ensures damaged { IfErr result (λ e. (at : ℕ) → e ≡ LogFault.Damaged at
+        → IsDamage (drop gate bytes.now) gate at) }
     ensures fault { IfErr result IsListFault }
 {
     if bytes.len() == gate {
@@ -42,7 +43,8 @@ fn batch_in(alloc: Global, bytes: &[u8], gate: usize) -> Result<Option<Decoded>,
 fn records_in(alloc: Global, bytes: &[u8]) -> Result<Vec<Record>, LogFault>
     requires { length bytes.now < 2 ^ 62 }
     ensures log { IfOk result (λ v. HasLog bytes.now v.items) }
-    ensures damaged { IfErr result (λ e. (at : ℕ) → e ≡ LogFault.Damaged at → IsDamagedAt bytes.now at) }
+    ensures damaged { IfErr result (λ e. (at : ℕ) → e ≡ LogFault.Damaged at
+        → IsDamagedAt bytes.now at) }
     ensures fault { IfErr result IsListFault }
 {
     let mut records = Vec::new(alloc);
@@ -71,9 +73,11 @@ fn records_in(alloc: Global, bytes: &[u8]) -> Result<Vec<Record>, LogFault>
 /// Reads so many bytes, from the first one on.
 fn read_whole<S: Shelf>(shelf: &mut S, size: u64, bytes: &mut Vec<u8>) -> Result<(), LogFault>
     requires { S.tells → size ≤ length (S.bytes shelf.old) }
-    ensures bytes { OnOk result (S.tells → bytes.new.items ≡ take size (drop 0 (S.bytes shelf.old))) }
+    ensures bytes { OnOk result (S.tells
+        → bytes.new.items ≡ take size (drop 0 (S.bytes shelf.old))) }
     ensures len { OnOk result (length bytes.new.items ≡ size) }
-    ensures device { IfErr result (λ e. e ≡ LogFault.Device → Rose (S.fault_count shelf.old) (S.fault_count shelf.new)) }
+    ensures device { IfErr result (λ e. e ≡ LogFault.Device
+        → Rose (S.fault_count shelf.old) (S.fault_count shelf.new)) }
     ensures fault { IfErr result IsReadFault }
     ensures stays { S.tells → S.bytes shelf.new ≡ S.bytes shelf.old }
     ensures later { S.fault_count shelf.old ≤ S.fault_count shelf.new }
@@ -90,8 +94,10 @@ fn read_whole<S: Shelf>(shelf: &mut S, size: u64, bytes: &mut Vec<u8>) -> Result
 /// All records of a log's file, which isn't changed.
 pub fn read_shelf<S: Shelf>(alloc: Global, shelf: &mut S) -> Result<Vec<Record>, LogFault>
     ensures log { IfOk result (λ records. S.tells → HasLog (S.bytes shelf.old) records.items) }
-    ensures damaged { IfErr result (λ e. (at : ℕ) → e ≡ LogFault.Damaged at → S.tells → IsDamagedAt (S.bytes shelf.old) at × HasNoLog (S.bytes shelf.old)) }
-    ensures device { IfErr result (λ e. e ≡ LogFault.Device → Rose (S.fault_count shelf.old) (S.fault_count shelf.new)) }
+    ensures damaged { IfErr result (λ e. (at : ℕ) → e ≡ LogFault.Damaged at → S.tells
+        → IsDamagedAt (S.bytes shelf.old) at × HasNoLog (S.bytes shelf.old)) }
+    ensures device { IfErr result (λ e. e ≡ LogFault.Device
+        → Rose (S.fault_count shelf.old) (S.fault_count shelf.new)) }
     ensures never { IfErr result (λ e. (e ≢ LogFault.Limit) × (e ≢ LogFault.Broken)) }
     ensures bytes { S.tells → S.bytes shelf.new ≡ S.bytes shelf.old }
     ensures later { S.fault_count shelf.old ≤ S.fault_count shelf.new }

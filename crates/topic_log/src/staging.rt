@@ -15,8 +15,11 @@ use log_frame::{Frame, OPEN_GATE};
 fn write_frames<D: Disk>(disk: &mut D, file: u32, at: u64, frames: &[Frame]) -> Result<(), LogFault>
     requires at { D.tells → at ≡ length (D.reads disk.old file) }
     requires small { at + length (closed_frames frames.now) ≤ file_limit }
-    ensures written { OnOk result (D.tells → Extended file (closed_frames frames.now) (D.reads disk.old) (D.reads disk.new)) }
-    ensures moves { D.tells → Moves D.reads D.call_number D.images D.images_since disk.old disk.new (KeepsFront file at) }
+    ensures written { OnOk result (D.tells
+        → Extended file (closed_frames frames.now) (D.reads disk.old) (D.reads disk.new)) }
+    ensures moves { D.tells
+        → Moves D.reads D.call_number D.images D.images_since disk.old disk.new
+        (KeepsFront file at) }
     ensures fault { IfErr result (λ e. e ≡ LogFault.Device) }
     ensures device { OnErr result (Rose (D.fault_count disk.old) (D.fault_count disk.new)) }
     ensures later { D.fault_count disk.old ≤ D.fault_count disk.new }
@@ -36,8 +39,11 @@ fn open_gates<D: Disk>(disk: &mut D, file: u32, at: u64, frames: &[Frame]) -> Re
     requires closed { D.tells → HasClosed at frames.now (D.reads disk.old file) }
     requires inside { D.tells → at ≤ length (D.reads disk.old file) }
     requires small { at + length (closed_frames frames.now) ≤ file_limit }
-    ensures opened { OnOk result (D.tells → OpensGates file at frames.now (D.reads disk.old) (D.reads disk.new)) }
-    ensures moves { D.tells → Moves D.reads D.call_number D.images D.images_since disk.old disk.new (KeepsFront file at) }
+    ensures opened { OnOk result (D.tells
+        → OpensGates file at frames.now (D.reads disk.old) (D.reads disk.new)) }
+    ensures moves { D.tells
+        → Moves D.reads D.call_number D.images D.images_since disk.old disk.new
+        (KeepsFront file at) }
     ensures fault { IfErr result (λ e. e ≡ LogFault.Device) }
     ensures device { OnErr result (Rose (D.fault_count disk.old) (D.fault_count disk.new)) }
     ensures later { D.fault_count disk.old ≤ D.fault_count disk.new }
@@ -57,9 +63,12 @@ fn stage<D: Disk>(disk: &mut D, file: u32, at: u64, frames: &[Frame]) -> Result<
     requires some { 1 ≤ length frames.now }
     requires at { D.tells → at ≡ length (D.reads disk.old file) }
     requires small { at + length (closed_frames frames.now) ≤ file_limit }
-    ensures written { OnOk result (D.tells → Extended file (staged frames.now) (D.reads disk.old) (D.reads disk.new)) }
+    ensures written { OnOk result (D.tells
+        → Extended file (staged frames.now) (D.reads disk.old) (D.reads disk.new)) }
     ensures durable { OnOk result (D.tells → Only file (D.reads disk.new) (D.images disk.new)) }
-    ensures moves { D.tells → Moves D.reads D.call_number D.images D.images_since disk.old disk.new (KeepsFront file at) }
+    ensures moves { D.tells
+        → Moves D.reads D.call_number D.images D.images_since disk.old disk.new
+        (KeepsFront file at) }
     ensures fault { IfErr result (λ e. e ≡ LogFault.Device) }
     ensures device { OnErr result (Rose (D.fault_count disk.old) (D.fault_count disk.new)) }
     ensures later { D.fault_count disk.old ≤ D.fault_count disk.new }
@@ -82,9 +91,12 @@ pub(crate) fn put_behind<D: Disk>(
     requires gate { D.tells → length (D.reads disk.old file) ≡ gate + 1 }
     requires durable { D.tells → Only file (D.reads disk.old) (D.images disk.old) }
     requires small { gate + 1 + length (closed_frames frames.now) ≤ file_limit }
-    ensures opened { OnOk result (D.tells → Opened file gate (staged frames.now) (D.reads disk.old) (D.reads disk.new)) }
+    ensures opened { OnOk result (D.tells
+        → Opened file gate (staged frames.now) (D.reads disk.old) (D.reads disk.new)) }
     ensures durable { OnOk result (D.tells → Only file (D.reads disk.new) (D.images disk.new)) }
-    ensures moves { D.tells → Moves D.reads D.call_number D.images D.images_since disk.old disk.new (Stages file gate (staged frames.now)) }
+    ensures moves { D.tells
+        → Moves D.reads D.call_number D.images D.images_since disk.old disk.new
+        (Stages file gate (staged frames.now)) }
     ensures fault { IfErr result (λ e. e ≡ LogFault.Device) }
     ensures device { OnErr result (Rose (D.fault_count disk.old) (D.fault_count disk.new)) }
     ensures later { D.fault_count disk.old ≤ D.fault_count disk.new }

@@ -34,11 +34,14 @@ pub(crate) fn fill<D: Disk>(
     bytes: &mut Vec<u8>,
 ) -> Result<(), LogFault>
     requires { D.tells → at + len ≤ length (D.reads disk.old file) }
-    ensures bytes { OnOk result (D.tells → bytes.new.items ≡ take len (drop at (D.reads disk.old file))) }
+    ensures bytes { OnOk result (D.tells
+        → bytes.new.items ≡ take len (drop at (D.reads disk.old file))) }
     ensures len { OnOk result (length bytes.new.items ≡ len) }
-    ensures rests { D.tells → Rests D.reads D.call_number D.images D.images_since disk.old disk.new }
+    ensures rests { D.tells
+        → Rests D.reads D.call_number D.images D.images_since disk.old disk.new }
     ensures fault { IfErr result IsReadFault }
-    ensures device { IfErr result (λ e. e ≡ LogFault.Device → Rose (D.fault_count disk.old) (D.fault_count disk.new)) }
+    ensures device { IfErr result (λ e. e ≡ LogFault.Device
+        → Rose (D.fault_count disk.old) (D.fault_count disk.new)) }
     ensures later { D.fault_count disk.old ≤ D.fault_count disk.new }
     ensures name { D.name disk.new ≡ D.name disk.old }
 {
@@ -51,8 +54,10 @@ pub(crate) fn fill<D: Disk>(
 pub(crate) fn frame_size(header: &[u8], room: u64) -> Result<u64, BadAt>
     ensures within { IfOk result (λ n. (8 ≤ n) × (n ≤ room)) }
     ensures near { IfErr result (λ e. e.at ≤ 4) }
-    ensures frame { (bytes : List ℕ) → header.now ≡ take 8 bytes → room ≡ length bytes → IfOk result (λ n. frame_at (take n bytes) ≡ frame_at bytes) }
-    ensures bad { (bytes : List ℕ) → header.now ≡ take 8 bytes → room ≡ length bytes → IfErr result (λ e. frame_at bytes ≡ Err e.at) }
+    ensures frame { (bytes : List ℕ) → header.now ≡ take 8 bytes → room ≡ length bytes
+        → IfOk result (λ n. frame_at (take n bytes) ≡ frame_at bytes) }
+    ensures bad { (bytes : List ℕ) → header.now ≡ take 8 bytes → room ≡ length bytes
+        → IfErr result (λ e. frame_at bytes ≡ Err e.at) }
 {
     match header.first_chunk::<8>() {
         Some(header) => frame_len(header, room),
@@ -97,9 +102,11 @@ impl Window {
         ensures shows { OnOk result (D.tells → Shows self.new (D.reads disk.old self.old.file)) }
         ensures file { self.new.file ≡ self.old.file }
         ensures size { self.new.size ≡ self.old.size }
-        ensures rests { D.tells → Rests D.reads D.call_number D.images D.images_since disk.old disk.new }
+        ensures rests { D.tells
+            → Rests D.reads D.call_number D.images D.images_since disk.old disk.new }
         ensures fault { IfErr result IsReadFault }
-        ensures device { IfErr result (λ e. e ≡ LogFault.Device → Rose (D.fault_count disk.old) (D.fault_count disk.new)) }
+        ensures device { IfErr result (λ e. e ≡ LogFault.Device
+            → Rose (D.fault_count disk.old) (D.fault_count disk.new)) }
         ensures later { D.fault_count disk.old ≤ D.fault_count disk.new }
         ensures name { D.name disk.new ≡ D.name disk.old }
     {
@@ -129,14 +136,19 @@ impl Window {
         requires size { D.tells → self.old.size ≡ length (D.reads disk.old self.old.file) }
         requires shows { D.tells → Shows self.old (D.reads disk.old self.old.file) }
         ensures within { IfOk result (λ n. (8 ≤ n) × (at + n ≤ self.old.size)) }
-        ensures frame { IfOk result (λ n. D.tells → frame_at (take n (drop at (D.reads disk.old self.old.file))) ≡ frame_at (drop at (D.reads disk.old self.old.file))) }
-        ensures damaged { IfErr result (λ e. (place : ℕ) → e ≡ LogFault.Damaged place → D.tells → StopsAt (drop at (D.reads disk.old self.old.file)) at place) }
+        ensures frame { IfOk result (λ n. D.tells
+            → frame_at (take n (drop at (D.reads disk.old self.old.file)))
+            ≡ frame_at (drop at (D.reads disk.old self.old.file))) }
+        ensures damaged { IfErr result (λ e. (place : ℕ) → e ≡ LogFault.Damaged place → D.tells
+            → StopsAt (drop at (D.reads disk.old self.old.file)) at place) }
         ensures file { self.new.file ≡ self.old.file }
         ensures size { self.new.size ≡ self.old.size }
         ensures shows { OnOk result (D.tells → Shows self.new (D.reads disk.old self.old.file)) }
-        ensures rests { D.tells → Rests D.reads D.call_number D.images D.images_since disk.old disk.new }
+        ensures rests { D.tells
+            → Rests D.reads D.call_number D.images D.images_since disk.old disk.new }
         ensures fault { IfErr result IsWalkFault }
-        ensures device { IfErr result (λ e. e ≡ LogFault.Device → Rose (D.fault_count disk.old) (D.fault_count disk.new)) }
+        ensures device { IfErr result (λ e. e ≡ LogFault.Device
+            → Rose (D.fault_count disk.old) (D.fault_count disk.new)) }
         ensures later { D.fault_count disk.old ≤ D.fault_count disk.new }
         ensures name { D.name disk.new ≡ D.name disk.old }
     {
@@ -156,14 +168,18 @@ impl Window {
         requires size { D.tells → self.old.size ≡ length (D.reads disk.old self.old.file) }
         requires shows { D.tells → Shows self.old (D.reads disk.old self.old.file) }
         ensures within { IfOk result (λ c. (c.count ≤ c.used) × (at + c.used ≤ self.old.size)) }
-        ensures frame { IfOk result (λ c. D.tells → Begins (drop at (D.reads disk.old self.old.file)) c.count c.used) }
-        ensures damaged { IfErr result (λ e. (place : ℕ) → e ≡ LogFault.Damaged place → D.tells → StopsAt (drop at (D.reads disk.old self.old.file)) at place) }
+        ensures frame { IfOk result (λ c. D.tells
+            → Begins (drop at (D.reads disk.old self.old.file)) c.count c.used) }
+        ensures damaged { IfErr result (λ e. (place : ℕ) → e ≡ LogFault.Damaged place → D.tells
+            → StopsAt (drop at (D.reads disk.old self.old.file)) at place) }
         ensures file { self.new.file ≡ self.old.file }
         ensures size { self.new.size ≡ self.old.size }
         ensures shows { OnOk result (D.tells → Shows self.new (D.reads disk.old self.old.file)) }
-        ensures rests { D.tells → Rests D.reads D.call_number D.images D.images_since disk.old disk.new }
+        ensures rests { D.tells
+            → Rests D.reads D.call_number D.images D.images_since disk.old disk.new }
         ensures fault { IfErr result IsWalkFault }
-        ensures device { IfErr result (λ e. e ≡ LogFault.Device → Rose (D.fault_count disk.old) (D.fault_count disk.new)) }
+        ensures device { IfErr result (λ e. e ≡ LogFault.Device
+            → Rose (D.fault_count disk.old) (D.fault_count disk.new)) }
         ensures later { D.fault_count disk.old ≤ D.fault_count disk.new }
         ensures name { D.name disk.new ≡ D.name disk.old }
     {
@@ -186,15 +202,20 @@ impl Window {
         requires size { D.tells → self.old.size ≡ length (D.reads disk.old self.old.file) }
         requires shows { D.tells → Shows self.old (D.reads disk.old self.old.file) }
         ensures inside { OnOk result (gate < self.old.size) }
-        ensures within { IfOk result (λ o. IfSome o (λ c. (c.count ≤ c.used) × (gate + 1 + c.used ≤ self.old.size))) }
-        ensures batch { IfOk result (λ o. D.tells → IsBatch o (drop gate (D.reads disk.old self.old.file))) }
-        ensures damaged { IfErr result (λ e. (place : ℕ) → e ≡ LogFault.Damaged place → D.tells → IsDamage (drop gate (D.reads disk.old self.old.file)) gate place) }
+        ensures within { IfOk result (λ o. IfSome o (λ c. (c.count ≤ c.used)
+            × (gate + 1 + c.used ≤ self.old.size))) }
+        ensures batch { IfOk result (λ o. D.tells
+            → IsBatch o (drop gate (D.reads disk.old self.old.file))) }
+        ensures damaged { IfErr result (λ e. (place : ℕ) → e ≡ LogFault.Damaged place → D.tells
+            → IsDamage (drop gate (D.reads disk.old self.old.file)) gate place) }
         ensures file { self.new.file ≡ self.old.file }
         ensures size { self.new.size ≡ self.old.size }
         ensures shows { OnOk result (D.tells → Shows self.new (D.reads disk.old self.old.file)) }
-        ensures rests { D.tells → Rests D.reads D.call_number D.images D.images_since disk.old disk.new }
+        ensures rests { D.tells
+            → Rests D.reads D.call_number D.images D.images_since disk.old disk.new }
         ensures fault { IfErr result IsWalkFault }
-        ensures device { IfErr result (λ e. e ≡ LogFault.Device → Rose (D.fault_count disk.old) (D.fault_count disk.new)) }
+        ensures device { IfErr result (λ e. e ≡ LogFault.Device
+            → Rose (D.fault_count disk.old) (D.fault_count disk.new)) }
         ensures later { D.fault_count disk.old ≤ D.fault_count disk.new }
         ensures name { D.name disk.new ≡ D.name disk.old }
     {

@@ -23,7 +23,14 @@ pub fn plan_commit(
     requires set_up { IsSetUp setup.now }
     requires sized { length stores.now ≡ length setup.now.stores }
     requires changelogs { length logs.now.changelogs.items ≡ length setup.now.stores }
-    ensures { IfOk result (λ r. PlansCommit setup.now logs.now (record { stores = stores.now; unsent = outputs.now.unsent; cleared = outputs.now.cleared }) next r.0 r.1) }
+    ensures { IfOk result
+        (λ r. PlansCommit setup.now logs.now
+        (record {
+          stores = stores.now;
+          unsent = outputs.now.unsent;
+          cleared
+              = outputs.now.cleared;
+        }) next r.0 r.1) }
 {
     let sends = plan_sends(alloc, outputs)?;
     let (changes, marks) = plan_stores(alloc, setup, stores, logs.changelogs.as_slice())?;

@@ -28,7 +28,8 @@ fn plan_store(
 ) -> Result<(Items<Frame>, StoreMark), NoMemory>
     requires some { 1 ≤ setup.now.batch }
     requires few { setup.now.batch ≤ 4096 }
-    ensures plans { IfOk result (λ r. PlansStore setup.now.batch store.now changelog.now r.0 r.1.count) }
+    ensures plans { IfOk result (λ r. PlansStore setup.now.batch store.now changelog.now r.0
+        r.1.count) }
     ensures name { IfOk result (λ r. r.1.name ≡ setup.now.name) }
 {
     let records = store.unlogged(alloc)?;
@@ -48,7 +49,8 @@ pub(crate) fn plan_stores(
     requires as_many { length stores.now ≡ length setup.now.stores }
     requires logs { length changelogs.now ≡ length setup.now.stores }
     requires batches { AllByRecursion (λ t. (1 ≤ t.batch) × (t.batch ≤ 4096)) setup.now.stores }
-    ensures { IfOk result (λ r. PlansStores setup.now changelogs.now stores.now r.0.items r.1.items) }
+    ensures { IfOk result (λ r. PlansStores setup.now changelogs.now stores.now r.0.items
+        r.1.items) }
 {
     let mut frames = Vec::new(alloc);
     let mut marks = Vec::new(alloc);

@@ -42,15 +42,25 @@ pub struct Plan {
 fn append_mark<D: Disk>(disk: &mut D, marks: &mut Log, frame: &Frame) -> Result<(), CommitFault>
     requires sound { is_broken marks.old ≡ false }
     requires room { HasRoom (size_of marks.old) (frame.now ∷ []) }
-    requires open { D.tells → (frames : List (List Record)) × IsOpenAt (D.reads disk.old) (D.images disk.old) checkpoint_file marks.old frames }
-    ensures appended { OnOk result (D.tells → MarksAppended (D.reads disk.old) (D.images disk.old) (D.reads disk.new) (D.images disk.new) marks.old marks.new frame.now) }
-    ensures others { D.tells → (log : LogValue) (frames : List (List Record)) → file_of log ≢ checkpoint_file → IsOpen (D.reads disk.old) (D.images disk.old) log frames → IsOpen (D.reads disk.new) (D.images disk.new) log frames }
-    ensures any_moment { D.tells → (before : List (List Record)) (records : List Record) → IsOpenAt (D.reads disk.old) (D.images disk.old) checkpoint_file marks.old before → IsFrame frame.now records
-        → LeavesOnly D.call_number D.images D.images_since disk.old disk.new (Appends checkpoint_file before (records ∷ [])) }
-    ensures elsewhere { OnOk result (D.tells → SameElsewhere checkpoint_file (D.reads disk.old) (D.reads disk.new)) }
+    requires open { D.tells → (frames : List (List Record))
+        × IsOpenAt (D.reads disk.old) (D.images disk.old) checkpoint_file marks.old frames }
+    ensures appended { OnOk result (D.tells
+        → MarksAppended (D.reads disk.old) (D.images disk.old) (D.reads disk.new)
+        (D.images disk.new) marks.old marks.new frame.now) }
+    ensures others { D.tells → (log : LogValue) (frames : List (List Record))
+        → file_of log ≢ checkpoint_file → IsOpen (D.reads disk.old) (D.images disk.old) log frames
+        → IsOpen (D.reads disk.new) (D.images disk.new) log frames }
+    ensures any_moment { D.tells → (before : List (List Record)) (records : List Record)
+        → IsOpenAt (D.reads disk.old) (D.images disk.old) checkpoint_file marks.old before
+        → IsFrame frame.now records
+        → LeavesOnly D.call_number D.images D.images_since disk.old disk.new
+        (Appends checkpoint_file before (records ∷ [])) }
+    ensures elsewhere { OnOk result (D.tells
+        → SameElsewhere checkpoint_file (D.reads disk.old) (D.reads disk.new)) }
     ensures counted { OnOk result (count_of marks.new ≡ count_of marks.old + frame.now.count) }
     ensures sound { OnOk result (is_broken marks.new ≡ false) }
-    ensures device { IfErr result (λ e. (e ≡ CommitFault.Device) × Rose (D.fault_count disk.old) (D.fault_count disk.new)) }
+    ensures device { IfErr result (λ e. (e ≡ CommitFault.Device)
+        × Rose (D.fault_count disk.old) (D.fault_count disk.new)) }
     ensures later { D.fault_count disk.old ≤ D.fault_count disk.new }
     ensures name { D.name disk.new ≡ D.name disk.old }
 {
@@ -84,16 +94,26 @@ impl Logs {
         requires sound { AreSound self.old }
         requires room { IsRoomFor self.old plan.now }
         requires open { D.tells → StandOpen (D.reads disk.old) (D.images disk.old) self.old }
-        ensures follows { OnOk result (D.tells → Follows (D.reads disk.old) (D.images disk.old) (D.reads disk.new) (D.images disk.new) self.old self.new plan.now) }
+        ensures follows { OnOk result (D.tells
+            → Follows (D.reads disk.old) (D.images disk.old) (D.reads disk.new) (D.images disk.new)
+            self.old self.new plan.now) }
         // A crash at any moment leaves the checkpoint file as it was, or all of the plan.
-        ensures any_moment { D.tells → (had : TaskFrames) (more : PlanRecords) → StandWith (D.reads disk.old) (D.images disk.old) self.old had → IsPlanOf self.old plan.now more
-            → LeavesOnly D.call_number D.images D.images_since disk.old disk.new (WriteLeaves (length self.old.changelogs.items) (length self.old.outputs.items) had more) }
+        ensures any_moment { D.tells → (had : TaskFrames) (more : PlanRecords)
+            → StandWith (D.reads disk.old) (D.images disk.old) self.old had
+            → IsPlanOf self.old plan.now more
+            → LeavesOnly D.call_number D.images D.images_since disk.old disk.new
+            (WriteLeaves (length self.old.changelogs.items) (length self.old.outputs.items) had
+            more) }
         ensures changelogs { length self.new.changelogs.items ≡ length self.old.changelogs.items }
         ensures outputs { length self.new.outputs.items ≡ length self.old.outputs.items }
-        ensures others { OnOk result (D.tells → OthersStay (length self.old.changelogs.items) (length self.old.outputs.items) (D.reads disk.old) (D.reads disk.new)) }
-        ensures counted { OnOk result (count_of self.new.marks ≡ count_of self.old.marks + plan.now.frame.count) }
+        ensures others { OnOk result (D.tells
+            → OthersStay (length self.old.changelogs.items) (length self.old.outputs.items)
+            (D.reads disk.old) (D.reads disk.new)) }
+        ensures counted { OnOk result
+            (count_of self.new.marks ≡ count_of self.old.marks + plan.now.frame.count) }
         ensures sound { OnOk result (AreSound self.new) }
-        ensures device { IfErr result (λ e. (e ≡ CommitFault.Device) × Rose (D.fault_count disk.old) (D.fault_count disk.new)) }
+        ensures device { IfErr result (λ e. (e ≡ CommitFault.Device)
+            × Rose (D.fault_count disk.old) (D.fault_count disk.new)) }
         ensures later { D.fault_count disk.old ≤ D.fault_count disk.new }
         ensures name { D.name disk.new ≡ D.name disk.old }
     {
