@@ -25,7 +25,8 @@ def text_of(path):
 def contracts(source, call):
     """The signatures with contracts of the functions of that name: all up to the body, or to the end of a trait's method."""
     name = call.split("::")[-1]
-    return re.findall(r"\bfn %s\b.*?(?:\n\s*\{\}?\n|;\n|\{\n)" % re.escape(name), source, re.S)
+    end = r"(?:\n\s*\{\}?\n|[})>];\n|-> \w+;\n)"
+    return re.findall(r"\bfn %s\b.*?%s" % (re.escape(name), end), source, re.S)
 
 
 def missing_in_row(cells, source, call):
