@@ -14,7 +14,6 @@ give the same pairs.
 
 Status: 0 where no text differs otherwise; 1 where one does, which is printed.
 """
-import argparse
 import collections
 import itertools
 import os
@@ -23,6 +22,8 @@ import re
 import subprocess
 import sys
 import tempfile
+
+import asking
 
 TOOLS = os.path.dirname(os.path.abspath(__file__))
 CRATE = os.path.join(TOOLS, "..", "crates", "props_show")
@@ -269,8 +270,7 @@ class Comparison:
 
 
 def main():
-    about, _, rest = __doc__.partition("\n\n")
-    words_of = argparse.ArgumentParser(description=about, epilog=rest, formatter_class=argparse.RawDescriptionHelpFormatter)
+    words_of = asking.asker(__doc__)
     words_of.add_argument("--texts", metavar="N", type=int, default=5000, help="how many generated texts: 5,000 where it isn't given")
     words_of.add_argument("--seed", metavar="N", type=int, default=1, help="determines them: 1 where it isn't given")
     words_of.add_argument("--program", metavar="PROGRAM", help="the built props_show; where it isn't given it is proved and built")

@@ -8,15 +8,14 @@ the limits must be refused by their numbers, with nothing written.
 It needs the built program, as `rt run` leaves it in crates/samza_run/out/, and about a minute for 1,000 tries. Status: 0 where
 each try went well; 1 with the first that didn't.
 """
-import argparse
 import collections
 import os
-import random
 import re
 import shutil
 import subprocess
 import tempfile
 
+import asking
 import topicfile
 
 CONFIGURATION = os.path.join(os.path.dirname(os.path.abspath(__file__)), "..", "examples", "word_count", "job.properties")
@@ -109,18 +108,13 @@ def refused_lines(path):
 
 
 def main():
-    about, _, rest = __doc__.partition("\n\n")
-    words = argparse.ArgumentParser(description=about, epilog=rest, formatter_class=argparse.RawDescriptionHelpFormatter)
-    words.add_argument("program", metavar="PROGRAM", help="the built program")
-    words.add_argument("tries", metavar="TRIES", nargs="?", type=int, default=1000, help="how many: 1,000 where it isn't given")
-    words.add_argument("seed", metavar="SEED", nargs="?", type=int, default=1, help="determines the changes: 1 where it isn't given")
-    asked = words.parse_args()
-    program, draw, seen = os.path.abspath(asked.program), random.Random(asked.seed), collections.Counter()
+    program, tries, draw = asking.ask_tries(__doc__, 1000, "changes")
+    seen = collections.Counter()
     with tempfile.TemporaryDirectory() as folder:
         shutil.copy(CONFIGURATION, folder)
         path = os.path.join(folder, "streams", "kafka", "lines", "0.log")
         small, big = whole_files(path)
-        for number in range(asked.tries):
+        for number in range(tries):
             seen[one(program, folder, path, changed(draw, big if number % 4 == 0 else small))] += 1
         refused_lines(path)
     for what, count in sorted(seen.items()):

@@ -7,12 +7,13 @@ other work on the machine stretches them all. It reads nothing that rt keeps and
 
 Status: that of `rt ci`; 0 where a gate is watched that runs already.
 """
-import argparse
 import os
 import re
 import subprocess
 import sys
 import time
+
+import asking
 
 TOP = os.path.join(os.path.dirname(os.path.abspath(__file__)), "..")
 TICK = os.sysconf("SC_CLK_TCK")
@@ -107,8 +108,7 @@ def show(samples, minutes, is_each):
 
 
 def main():
-    about, _, rest = __doc__.partition("\n\n")
-    words = argparse.ArgumentParser(description=about, epilog=rest, formatter_class=argparse.RawDescriptionHelpFormatter)
+    words = asking.asker(__doc__)
     words.add_argument("names", metavar="NAME", nargs="*", help="the crates to prove, with those below them: all where none is given")
     words.add_argument("--edits", action="store_true", help="lists each edit too, dearest first")
     words.add_argument("--pid", type=int, help="watches a gate that runs already, the process of `rt ci`, to its end")

@@ -10,15 +10,14 @@ checkpoint's count back: each of their keys, in order, with its value at the che
 A killed process leaves what it wrote, so this is no test of a loss of power. It needs the built program, as `rt run` leaves it in
 crates/samza_run/out/, and about half a minute for 200 tries. Status: 0 where each try went well; 1 with the first that didn't.
 """
-import argparse
 import collections
 import os
-import random
 import shutil
 import subprocess
 import tempfile
 import time
 
+import asking
 import topicfile
 
 CONFIGURATION = os.path.join(os.path.dirname(os.path.abspath(__file__)), "..", "examples", "word_count", "job.properties")
@@ -131,13 +130,7 @@ class Tries:
 
 
 def main():
-    about, _, rest = __doc__.partition("\n\n")
-    words = argparse.ArgumentParser(description=about, epilog=rest, formatter_class=argparse.RawDescriptionHelpFormatter)
-    words.add_argument("program", metavar="PROGRAM", help="the built program")
-    words.add_argument("tries", metavar="TRIES", nargs="?", type=int, default=200, help="how many tries: 200 where it isn't given")
-    words.add_argument("seed", metavar="SEED", nargs="?", type=int, default=1, help="determines the moments: 1 where it isn't given")
-    asked = words.parse_args()
-    program, tries, draw = os.path.abspath(asked.program), asked.tries, random.Random(asked.seed)
+    program, tries, draw = asking.ask_tries(__doc__, 200, "moments")
     with tempfile.TemporaryDirectory() as place:
         all_tries = Tries(program, place)
         shutil.copytree(all_tries.base, os.path.join(place, "whole"))

@@ -8,7 +8,6 @@ strace, that the folders are synced before the first gate that counts on their f
 
 Status: 0 where each try went well; 1 with the first that didn't.
 """
-import argparse
 import os
 import re
 import resource
@@ -16,6 +15,8 @@ import shutil
 import socket
 import subprocess
 import tempfile
+
+import asking
 
 EXAMPLE = os.path.join(os.path.dirname(os.path.abspath(__file__)), "..", "examples", "word_count")
 NOBODY = 65534
@@ -195,8 +196,7 @@ def refused_memory(program):
 
 
 def main():
-    about, _, rest = __doc__.partition("\n\n")
-    words = argparse.ArgumentParser(description=about, epilog=rest, formatter_class=argparse.RawDescriptionHelpFormatter)
+    words = asking.asker(__doc__)
     words.add_argument("program", metavar="PROGRAM", help="the built program")
     program = os.path.abspath(words.parse_args().program)
     with tempfile.TemporaryDirectory() as place:
