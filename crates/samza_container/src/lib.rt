@@ -19,6 +19,8 @@ mod words;
 
 pub use fault_lines::fault_line;
 pub use faults::RunFault;
-pub use laws::{built_configurations_set_up, runs_or_says_why, stops_with_one_cause};
+pub use laws::{
+    built_configurations_set_up, runs_or_says_why, stops_with_one_cause, what_ran_can_be_run,
+};
 pub use reports::{InputReport, OutputReport, StoreReport, TaskReport, report};
 pub use top::samza_main;
