@@ -1,23 +1,18 @@
 -- A host in memory after its steps.
-use Rattle.std.proofs.Common.{ℕ, ◌≡◌, ◌↔◌, List, [], ◌∷◌, ◌++◌, length, Option, None, Some, refl, Bool, true, false, if◌then◌else◌, sym, ap, ◌∙◌, subst, arith, inl, inr}
-use Rattle.std.proofs.lemmas.List.{with_items_is}
-use Rattle.std.specs.Vec.{with_items}
-use Rattle.std.specs.Prelude.{Vec}
+use Rattle.std.proofs.Common.{ℕ, ◌≡◌, ◌≢◌, ◌↔◌, [], Option, None, Some, true, false, refl, sym, ap, ◌∙◌, subst, inl, inr}
 use Rattle.samza_model.specs.Files.{Image}
 use Rattle.disk_model.proofs.ByName.{name_cases}
-use Rattle.disk_model.proofs.SameDisks.{same_disk_trans}
-use Rattle.disk_model.proofs.SlotSteps.{At, pushed_elsewhere, pushed_here, slot_put}
-use Rattle.std.specs.Prelude.{Result, Ok, Err, OnOk, OnErr}
+use Rattle.disk_model.proofs.SameDisks.{same_disk_trans, there_and_back}
+use Rattle.std.specs.Prelude.{IsSome, Result, Ok, Err, OnOk, OnErr}
 use Rattle.disk_model.specs.Capacities.{Capacity}
-use Rattle.disk_model.specs.HostSteps.{ChangesHeld}
-use Rattle.disk_model.specs.Handles.{SameDisk}
+use Rattle.disk_model.specs.HostSteps.{OnHeld}
+use Rattle.disk_model.specs.Handles.{AsMany, OneMore, SameDisk}
 use Rattle.disk_model.specs.MemoryDisk.{mem_calls, mem_capacity, mem_file_count, mem_images, mem_images_since, mem_name, mem_reads}
 use Rattle.disk_model.specs.MemoryHost.{IsSameHeld, disk_of, new_capacity}
-use Rattle.disk_model.specs.Slots.{held_in, images_in, number_in, or_else, reads_in, since_in, slot_at}
+use Rattle.disk_model.specs.Slots.{images_in, number_in, or_else, reads_in, since_in}
 use Rattle.disk_model.specs.declared.memory_disk.MemDisk.{MemDisk}
 use Rattle.disk_model.specs.declared.memory_host.MemHost.{MemHost}
 use Rattle.disk_model.specs.declared.names.DiskName.{DiskName}
-use Rattle.disk_model.specs.declared.slots.Slot.{Slot}
 
 -- the meanings of what stands under a name are those of another disk
 pub record SameIn (o p : Option MemDisk) : Type 0 where
@@ -56,82 +51,9 @@ fresh_in d reads images since calls files = record {
   files = files;
 }
 
--- the slots of a vector, changed through a slice
-pub at_items : {Z : Type 0} (v : Vec (Slot MemDisk) Z) (xs ws : List (Slot MemDisk)) (n : DiskName) (s t : Slot MemDisk) → xs ≡ v.items → length ws ≡ length xs → At xs ws n s t → At v.items (with_items v ws).items n s t
-at_items v xs ws n s t is len step =
-    let fits : length ws ≡ v.len = omega (arith, ap length is, v.ok.0) in
-    let e : (with_items v ws).items ≡ ws = with_items_is v ws fits in
-    let half : At v.items ws n s t = subst (λ (l : List (Slot MemDisk)). At l ws n s t) is step in
-    subst (λ (l : List (Slot MemDisk)). At v.items l n s t) (sym e) half
-
--- each disk has the name under which it stands
-pub named_at : (old new : List (Slot MemDisk)) (n : DiskName) (s t : Slot MemDisk) → At old new n s t
-    → ((m : DiskName) (d : MemDisk) → held_in (slot_at old m) ≡ Some d → mem_name d ≡ m)
-    → ((d : MemDisk) → t.held ≡ Some d → mem_name d ≡ n)
-    → (m : DiskName) (d : MemDisk) → held_in (slot_at new m) ≡ Some d → mem_name d ≡ m
-named_at old new n s t step named here m d held = elim (name_cases m n) [
-  | inl e ↦
-      let q : t.held ≡ Some d = sym (ap held_in step.here) ∙ ap (λ (x : DiskName). held_in (slot_at new x)) (sym e) ∙ held in
-      here d q ∙ sym e
-  | inr ne ↦ named m d (sym (ap held_in (step.elsewhere m ne)) ∙ held)
-]
-
--- a list after a push that may have been refused
-pub by_push : {X : Type 0} (P : List X → Type 0) (b : Bool) (xs ws : List X) (x : X) → ws ≡ (if b then xs ++ x ∷ [] else xs) → P (xs ++ x ∷ []) → P xs → P ws
-by_push P true xs ws x is pushed kept = subst P (sym is) pushed
-by_push P false xs ws x is pushed kept = subst P (sym is) kept
-
-pub named_pushed : (xs : List (Slot MemDisk)) (n : DiskName) (t : Slot MemDisk) → slot_at xs n ≡ None → t.name ≡ n
-    → ((m : DiskName) (d : MemDisk) → held_in (slot_at xs m) ≡ Some d → mem_name d ≡ m)
-    → ((d : MemDisk) → t.held ≡ Some d → mem_name d ≡ n)
-    → (m : DiskName) (d : MemDisk) → held_in (slot_at (xs ++ t ∷ []) m) ≡ Some d → mem_name d ≡ m
-named_pushed xs n t none is named here m d held = elim (name_cases m n) [
-  | inl e ↦
-      let q : t.held ≡ Some d =
-      sym (ap held_in (pushed_here xs n t none is)) ∙ ap (λ (x : DiskName). held_in (slot_at (xs ++ t ∷ []) x)) (sym e) ∙ held in
-      here d q ∙ sym e
-  | inr ne ↦ named m d (sym (ap held_in (pushed_elsewhere xs n t is m ne)) ∙ held)
-]
-
--- counts by name after such a push
-pub counts_pushed : (f : Option (Slot MemDisk) → ℕ) (xs : List (Slot MemDisk)) (n : DiskName) (t : Slot MemDisk) → slot_at xs n ≡ None → t.name ≡ n → f (Some t) ≡ f None → (m : DiskName) → f (slot_at (xs ++ t ∷ []) m) ≡ f (slot_at xs m)
-counts_pushed f xs n t none is same m = elim (name_cases m n) [
-  | inl e ↦
-      let at_n : f (slot_at (xs ++ t ∷ []) n) ≡ f (slot_at xs n) = ap f (pushed_here xs n t none is) ∙ same ∙ ap f (sym none) in
-      subst (λ (x : DiskName). f (slot_at (xs ++ t ∷ []) x) ≡ f (slot_at xs x)) (sym e) at_n
-  | inr ne ↦ ap f (pushed_elsewhere xs n t is m ne)
-]
-
 -- what can be taken under a name of a host with these bounds, from what stands under it
 abbrev pub capacity_in : ℕ × ℕ → DiskName → Option MemDisk → Capacity
 capacity_in bounds n o = or_else (new_capacity bounds n) mem_capacity o
-
--- what can be taken by name after a push of a new disk
-pub capacity_pushed : (bounds : ℕ × ℕ) (xs : List (Slot MemDisk)) (n : DiskName) (t : Slot MemDisk) (d : MemDisk) → slot_at xs n ≡ None → t.name ≡ n → t.held ≡ Some d → mem_capacity d ≡ new_capacity bounds n
-    → (m : DiskName) → capacity_in bounds m (held_in (slot_at (xs ++ t ∷ []) m)) ≡ capacity_in bounds m (held_in (slot_at xs m))
-capacity_pushed bounds xs n t d none is held fresh m = elim (name_cases m n) [
-  | inl e ↦
-      let now : held_in (slot_at (xs ++ t ∷ []) n) ≡ Some d = ap held_in (pushed_here xs n t none is) ∙ held in
-      let at_n : capacity_in bounds n (held_in (slot_at (xs ++ t ∷ []) n)) ≡ capacity_in bounds n (held_in (slot_at xs n)) =
-      ap (λ (o : Option MemDisk). capacity_in bounds n o) now ∙ fresh ∙ sym (ap (λ (o : Option MemDisk). capacity_in bounds n o) (ap held_in none)) in
-      subst (λ (x : DiskName). capacity_in bounds x (held_in (slot_at (xs ++ t ∷ []) x)) ≡ capacity_in bounds x (held_in (slot_at xs x))) (sym e) at_n
-  | inr ne ↦ ap (λ (o : Option (Slot MemDisk)). capacity_in bounds m (held_in o)) (pushed_elsewhere xs n t is m ne)
-]
-
--- the meanings by name after such a push
-pub same_in_pushed : (xs : List (Slot MemDisk)) (n : DiskName) (t : Slot MemDisk) (d : MemDisk) → slot_at xs n ≡ None → t.name ≡ n → t.held ≡ Some d → SameIn None (Some d) → (m : DiskName) → SameIn (held_in (slot_at xs m)) (held_in (slot_at (xs ++ t ∷ []) m))
-same_in_pushed xs n t d none is held fresh m = elim (name_cases m n) [
-  | inl e ↦
-      let was : held_in (slot_at xs m) ≡ None = ap (λ (x : DiskName). held_in (slot_at xs x)) e ∙ ap held_in none in
-      let now : held_in (slot_at (xs ++ t ∷ []) m) ≡ Some d =
-      ap (λ (x : DiskName). held_in (slot_at (xs ++ t ∷ []) x)) e ∙ ap held_in (pushed_here xs n t none is) ∙ held in
-      let half : SameIn None (held_in (slot_at (xs ++ t ∷ []) m)) = subst (λ (x : Option MemDisk). SameIn None x) (sym now) fresh in
-      subst (λ (x : Option MemDisk). SameIn x (held_in (slot_at (xs ++ t ∷ []) m))) (sym was) half
-  | inr ne ↦ same_in_at _ _ (ap held_in (pushed_elsewhere xs n t is m ne))
-]
-
-pub same_in_refl : (o : Option MemDisk) → SameIn o o
-same_in_refl o = same_in o
 
 pub held_from : (old new : MemHost) (n : DiskName) → SameIn (disk_of old n) (disk_of new n) → IsSameHeld old new n
 held_from old new n p = record { disk = p.disk; files_are = p.files }
@@ -148,15 +70,83 @@ in_from o p e = same_in_at o p e
 pub in_host : (old new : MemHost) (n : DiskName) → IsSameHeld old new n → SameIn (disk_of old n) (disk_of new n)
 in_host old new n p = record { disk = p.disk; files = p.files_are }
 
-pub some_slot : (o : Option (Slot MemDisk)) → (o ≡ None → ⊥) → (s : Slot MemDisk) × (o ≡ Some s)
-some_slot None there = absurd (there refl)
-some_slot (Some s) there = (s, refl)
-
 pub by_result : {T E A B P : Type 0} (r : Result T E) → OnOk r A → OnErr r B → (A → P) → (B → P) → P
 by_result (Ok x) a b f g = f a
 by_result (Err e) a b f g = g b
 
-pub placed_at : (n : DiskName) (step : MemDisk → MemDisk → Type 0) (xs ws : List (Slot MemDisk)) (h : ChangesHeld n step xs ws) → At xs ws n h.slot (record { name = h.slot.name; held = Some h.after; shelves = h.slot.shelves })
-placed_at n step xs ws h =
-    let t : Slot MemDisk = record { name = h.slot.name; held = Some h.after; shelves = h.slot.shelves } in
-    subst (λ (l : List (Slot MemDisk)). At xs l n h.slot t) (sym h.changed) (slot_put xs n h.slot t h.there refl)
+-- a disk that was just made, or none, where none was
+pub made_in : {E : Type 0} (r : Result Unit E) (o p : Option MemDisk) (d : MemDisk) → OnOk r (p ≡ Some d) → OnErr r (p ≡ None) → o ≡ None → SameIn None (Some d) → SameIn o p
+made_in r o p d held refused none fresh = by_result r held refused
+    (λ is. subst (λ (x : Option MemDisk). SameIn x p) (sym none) (subst (λ (x : Option MemDisk). SameIn None x) (sym is) fresh))
+    (λ is. in_from o p (is ∙ sym none))
+
+-- what is held of each name is as it was, where that is so of this name
+module _ (old new : MemHost) (n : DiskName) (elsewhere : (m : DiskName) → m ≢ n → disk_of new m ≡ disk_of old m) where
+  pub held_each : SameIn (disk_of old n) (disk_of new n) → (m : DiskName) → IsSameHeld old new m
+  held_each here m = elim (name_cases m n) [
+    | inl e ↦ subst (λ (x : DiskName). IsSameHeld old new x) (sym e) (held_from old new n here)
+    | inr ne ↦ same_held old new m (elsewhere m ne)
+  ]
+
+-- what is so of each name but this, and of this
+pub each_name : {X : Type 0} (old new : DiskName → X) (n : DiskName) → ((m : DiskName) → m ≢ n → new m ≡ old m) → new n ≡ old n → (m : DiskName) → new m ≡ old m
+each_name old new n elsewhere here m = elim (name_cases m n) [
+  | inl e ↦ subst (λ (x : DiskName). new x ≡ old x) (sym e) here
+  | inr ne ↦ elsewhere m ne
+]
+
+-- one more, and that one back
+pub out_and_in : (a b c : DiskName → ℕ) (n : DiskName) → OneMore n a b → OneMore n c b → AsMany a c
+out_and_in a b c n p q = let back = there_and_back a b c n p q in each_name a c n back.0 back.1
+
+-- each disk has the name under which it is held
+pub named_each : (old new : DiskName → Option MemDisk) (n : DiskName) → ((m : DiskName) → m ≢ n → new m ≡ old m)
+    → ((m : DiskName) (d : MemDisk) → old m ≡ Some d → mem_name d ≡ m)
+    → ((d : MemDisk) → new n ≡ Some d → mem_name d ≡ n)
+    → (m : DiskName) (d : MemDisk) → new m ≡ Some d → mem_name d ≡ m
+named_each old new n elsewhere named here m d held = elim (name_cases m n) [
+  | inl e ↦ here d (ap new (sym e) ∙ held) ∙ sym e
+  | inr ne ↦ named m d (sym (elsewhere m ne) ∙ held)
+]
+
+none_is_some : false ≡ true → ⊥
+none_is_some e = cc
+
+module _ {T : Type 0} where
+  one_some : (o : Option T) (d e : T) → o ≡ Some d → o ≡ Some e → d ≡ e
+  one_some o d e is is' = cc
+
+  one_none : {X : Type 0} (d : T) → None ≡ Some d → X
+  one_none d is = cc
+
+  none_some : {X : Type 0} (o : Option T) (d : T) → o ≡ None → o ≡ Some d → X
+  none_some o d none is = cc
+
+  pub record Changed (step : T → T → Type 0) (o p : Option T) : Type 0 where
+    pub before : T
+    pub after : T
+    pub was : o ≡ Some before
+    pub now : p ≡ Some after
+    pub stepped : step before after
+
+  -- what is held is still held after a step
+  pub on_some : (step : T → T → Type 0) (o p : Option T) → IsSome o → OnHeld step o p → Changed step o p
+  on_some step None p some held = absurd (none_is_some some)
+  on_some step (Some d) None some held = absurd held
+  on_some step (Some d) (Some e) some held = record { before = d; after = e; was = refl; now = refl; stepped = held }
+
+  pub on_none : (step : T → T → Type 0) (o p : Option T) → o ≡ None → OnHeld step o p → p ≡ o
+  on_none step None p none held = held
+  on_none step (Some d) p none held = one_none d (sym none)
+
+  -- what no step changes
+  pub on_same : {X : Type 0} (f : T → X) (step : T → T → Type 0) (o p : Option T) (x : X) → OnHeld step o p → ((d e : T) → step d e → f e ≡ f d) → ((d : T) → o ≡ Some d → f d ≡ x) → (d : T) → p ≡ Some d → f d ≡ x
+  on_same f step None p x held same said d is = none_some p d held is
+  on_same f step (Some d) None x held same said e is = absurd held
+  on_same f step (Some d) (Some d') x held same said e is = ap f (sym (one_some (Some d') d' e refl is)) ∙ same d d' held ∙ said d refl
+
+pub named_one : (o : Option MemDisk) (d : MemDisk) (n : DiskName) → o ≡ Some d → mem_name d ≡ n → (e : MemDisk) → o ≡ Some e → mem_name e ≡ n
+named_one o d n is named e is' = ap mem_name (sym (one_some o d e is is')) ∙ named
+
+pub named_none : (o : Option MemDisk) (n : DiskName) → o ≡ None → (e : MemDisk) → o ≡ Some e → mem_name e ≡ n
+named_none o n none e is = none_some o e none is

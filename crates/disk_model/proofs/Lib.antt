@@ -2,8 +2,8 @@ pub mod ByName
 pub mod Capacities
 pub mod Counts
 pub mod CrashSteps
-pub mod ArmSteps
 pub mod HostSteps
+pub mod Lending
 pub mod Moments
 pub mod Places
 pub mod Replays

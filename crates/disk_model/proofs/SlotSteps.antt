@@ -14,7 +14,7 @@ pub record At {T : Type 0} (old new : List (Slot T)) (n : DiskName) (s t : Slot 
   pub elsewhere : (m : DiskName) → m ≢ n → slot_at new m ≡ slot_at old m
 
 module _ {T : Type 0} where
-  pub name_is : (slots : List (Slot T)) (n : DiskName) (s : Slot T) → slot_at slots n ≡ Some s → s.name ≡ n
+  name_is : (slots : List (Slot T)) (n : DiskName) (s : Slot T) → slot_at slots n ≡ Some s → s.name ≡ n
   name_is [] n s e = cc
   name_is (x ∷ xs) n s e = elim (cases_Bool (same_name x.name n)) [
     | inl yes' ↦
@@ -24,7 +24,7 @@ module _ {T : Type 0} where
     | inr other ↦ name_is xs n s (sym (cond-false (same_name x.name n) (Some x) (slot_at xs n) other) ∙ e)
   ]
 
-  pub slot_put : (slots : List (Slot T)) (n : DiskName) (s t : Slot T) → slot_at slots n ≡ Some s → t.name ≡ s.name → At slots (put_slot slots n t) n s t
+  slot_put : (slots : List (Slot T)) (n : DiskName) (s t : Slot T) → slot_at slots n ≡ Some s → t.name ≡ s.name → At slots (put_slot slots n t) n s t
   slot_put [] n s t e same = cc
   slot_put (x ∷ xs) n s t e same = elim (cases_Bool (same_name x.name n)) [
     | inl yes' ↦
@@ -91,15 +91,6 @@ module _ {T : Type 0} where
   pub out_slot : (o : Option (Slot T)) → 1 ≤ outs_in o → (s : Slot T) × (o ≡ Some s) × (s.held ≡ None)
   out_slot None le = absurd (omega arith)
   out_slot (Some s) le = (s, refl, held_none s.held le)
-
-  held_some : (o : Option T) → out_held o ≡ 0 → (t : T) × (o ≡ Some t)
-  held_some None e = absurd (omega arith)
-  held_some (Some t) e = (t, refl)
-
-  -- a slot that is there and not out holds something
-  pub in_slot : (o : Option (Slot T)) → outs_in o ≡ 0 → (o ≡ None → ⊥) → (s : Slot T) × (t : T) × (o ≡ Some s) × (s.held ≡ Some t)
-  in_slot None e there = absurd (there refl)
-  in_slot (Some s) e there = let p = held_some s.held e in (s, p.0, refl, p.1)
 
   module _ (old new : List (Slot T)) (n : DiskName) (s t : Slot T) (step : At old new n s t) where
     -- what both slots have in common stays at each name

@@ -1,15 +1,12 @@
 -- Steps of a host in memory.
-use Rattle.std.specs.Prelude.{ℕ, ◌≡◌, ◌+◌, max, List, Some}
+use Rattle.std.specs.Prelude.{ℕ, ◌≡◌, ◌+◌, max, List, Option, None, Some}
 use Rattle.disk_model.specs.Capacities.{unused}
 use Rattle.disk_model.specs.Images.{Only, SameElsewhere}
 use Rattle.disk_model.specs.MemoryDisk.{mem_calls, mem_capacity, mem_file_count, mem_images, mem_name, mem_reads, mem_states}
 use Rattle.disk_model.specs.Picks.{IsPicked}
-use Rattle.disk_model.specs.Slots.{put_slot, slot_at}
 use Rattle.disk_model.specs.declared.memory_disk.MemDisk.{MemDisk}
-use Rattle.disk_model.specs.declared.names.DiskName.{DiskName}
 use Rattle.disk_model.specs.declared.picks.Pick.{Pick}
 use Rattle.disk_model.specs.declared.picks.Pick.TheVariants.{New}
-use Rattle.disk_model.specs.declared.slots.Slot.{Slot}
 
 -- the bytes stand in the place of the file, and the other files read as before
 pub record IsPlaced (file : ℕ) (bytes : List ℕ) (old new : MemDisk) : Type 0 where
@@ -31,12 +28,8 @@ pub record IsCrashed (pick : Pick) (old new : MemDisk) : Type 0 where
   pub calls : mem_calls new ≡ 0
   pub capacity : mem_capacity new ≡ unused (mem_capacity old)
 
--- what stood under the name was there, and is changed
-pub record ChangesHeld (n : DiskName) (step : MemDisk → MemDisk → Type 0) (old new : List (Slot MemDisk)) : Type 0 where
-  pub slot : Slot MemDisk
-  pub there : slot_at old n ≡ Some slot
-  pub before : MemDisk
-  pub held : slot.held ≡ Some before
-  pub after : MemDisk
-  pub stepped : step before after
-  pub changed : new ≡ put_slot old n (record { name = slot.name; held = Some after; shelves = slot.shelves })
+-- what is held of a name was changed by such a step, or nothing was held and nothing is
+abbrev pub OnHeld : {T : Type 0} → (T → T → Type 0) → Option T → Option T → Type 0
+OnHeld step None new = new ≡ None
+OnHeld step (Some d) None = ⊥
+OnHeld step (Some d) (Some e) = step d e

@@ -7,6 +7,7 @@ pub mod Cells
 pub mod FileStates
 pub mod Folders
 pub mod Formed
+pub mod HandedOut
 pub mod Handles
 pub mod Held
 pub mod HostLaws

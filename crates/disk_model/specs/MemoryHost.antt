@@ -5,7 +5,8 @@ use Rattle.disk_model.specs.Capacities.{Capacity}
 use Rattle.disk_model.specs.Folders.{Folder}
 use Rattle.disk_model.specs.Handles.{SameAt}
 use Rattle.disk_model.specs.MemoryDisk.{mem_calls, mem_capacity, mem_file_count, mem_images, mem_images_since, mem_reads}
-use Rattle.disk_model.specs.Slots.{held_in, images_in, number_in, or_else, outs_in, reads_in, shelves_in, since_in, slot_at, text_in}
+use Rattle.disk_model.specs.HandedOut.{disks_of, held_under, shelves_of}
+use Rattle.disk_model.specs.Slots.{held_in, images_in, number_in, or_else, reads_in, since_in, slot_at, text_in}
 use Rattle.disk_model.specs.Arms.{said_fails}
 use Rattle.disk_model.specs.Tallies.{tally_fails}
 use Rattle.disk_model.specs.declared.memory_disk.MemDisk.{MemDisk}
@@ -16,7 +17,7 @@ use Rattle.disk_model.specs.declared.new_disks.TheConstants.{STREAM_FILES, TASK_
 
 -- the disk of a name, if it is there and not out
 abbrev pub disk_of : MemHost → DiskName → Option MemDisk
-disk_of h n = held_in (slot_at h.slots.items n)
+disk_of h = held_under h.handed
 
 abbrev pub host_text : MemHost → Option (List ℕ)
 host_text h = text_in (λ v. v.items) h.text
@@ -44,10 +45,10 @@ abbrev pub host_calls : MemHost → DiskName → ℕ
 host_calls h n = number_in mem_calls (disk_of h n)
 
 abbrev pub host_disks_out : MemHost → DiskName → ℕ
-host_disks_out h n = outs_in (slot_at h.slots.items n)
+host_disks_out h = disks_of h.handed
 
 abbrev pub host_shelves_out : MemHost → DiskName → ℕ
-host_shelves_out h n = shelves_in (slot_at h.slots.items n)
+host_shelves_out h = shelves_of h.handed
 
 abbrev pub host_faults : MemHost → ℕ
 host_faults h = h.tally.faults

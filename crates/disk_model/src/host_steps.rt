@@ -1,19 +1,20 @@
 // Small steps of a host in memory.
-ghost use Rattle.std.specs.Prelude.{◌≡◌, ◌-◌, ◌^◌, ◌+◌, ℕ, Option, Some, None, length, IfOk, MatchOption, min, max};
+ghost use Rattle.std.specs.Prelude.{◌≡◌, ◌≢◌, ◌-◌, ◌^◌, ◌+◌, ℕ, Option, Some, None, length, IfOk, MatchOption, min, max};
 ghost use Rattle.disk_model.specs.Images.{Only, SameElsewhere};
 ghost use Rattle.disk_model.specs.MemoryDisk.{mem_name, mem_reads, mem_images, mem_file_count, mem_calls, mem_capacity, mem_fails, mem_faults, CanPlace, IsSameDisk};
 ghost use Rattle.disk_model.specs.MemoryShelf.{shelf_name, shelf_file, shelf_bytes, shelf_calls, shelf_fails, shelf_faults};
-ghost use Rattle.disk_model.specs.Slots.{slot_at, held_in, reads_in, number_in, text_in, ChangesSlot};
+ghost use Rattle.disk_model.specs.Handles.{AsMany};
+ghost use Rattle.disk_model.specs.HandedOut.{disks_of, held_under, shelves_of};
+ghost use Rattle.disk_model.specs.Slots.{number_in, text_in};
 ghost use Rattle.disk_model.specs.Tallies.{fails_at};
-ghost use Rattle.disk_model.specs.HostSteps.{IsPlaced, IsCrashed, ChangesHeld};
+ghost use Rattle.disk_model.specs.HostSteps.{IsPlaced, IsCrashed, OnHeld};
 ghost use Rattle.disk_model.specs.declared.memory_disk.MemDisk.{MemDisk};
+ghost use Rattle.disk_model.specs.declared.names.DiskName.{DiskName as DiskNameValue};
 
 use crate::arms::Failing;
 use crate::memory_shelf::MemShelf;
-use crate::names_held::{held_of, place_of};
-use crate::slots::Slot;
 use crate::tallies::Tally;
-use crate::{DiskName, MemDisk, Pick};
+use crate::{DiskName, HandedOut, MemDisk, Pick};
 use samza_model::{Bin, NoMemory, Plain};
 use std::alloc::Global;
 
@@ -39,11 +40,11 @@ pub(crate) fn stream_name(alloc: Global, system: &Bin, stream: &Bin) -> Result<D
 }
 
 /// One more than the greatest file number of a disk, at most 2^32 - 1.
-pub(crate) fn count_of_files(slots: &[Slot<MemDisk>], name: &DiskName) -> u32
-    ensures { result ≡ min (number_in mem_file_count (held_in (slot_at slots.now name.now)))
+pub(crate) fn count_of_files(handed: &HandedOut<MemDisk>, name: &DiskName) -> u32
+    ensures { result ≡ min (number_in mem_file_count (held_under handed.now name.now))
         (2 ^ 32 - 1) }
 {
-    match held_of(slots, name) {
+    match handed.held(name) {
         Some(disk) => disk.file_count().min(0xffff_ffff) as u32,
         None => 0,
     }
@@ -98,37 +99,34 @@ pub(crate) fn as_handle(disk: MemDisk, failing: Failing) -> MemDisk
     disk
 }
 
-/// Puts bytes in the place of a file of the disk under a name, if it is there and not out.
-pub(crate) fn place_held(slots: &mut [Slot<MemDisk>], name: &DiskName, file: u32, bytes: &[u8])
-    requires fits { (d : MemDisk) → held_in (slot_at slots.old name.now) ≡ Some d
+/// Puts bytes in the place of a file of the disk that is held of a name.
+pub(crate) fn place_held(handed: &mut HandedOut<MemDisk>, name: &DiskName, file: u32, bytes: &[u8])
+    requires fits { (d : MemDisk) → held_under handed.old name.now ≡ Some d
         → CanPlace d file (length bytes.now) }
-    ensures placed { (d : MemDisk) → held_in (slot_at slots.old name.now) ≡ Some d
-        → ChangesHeld name.now (IsPlaced file bytes.now) slots.old slots.new }
-    ensures absent { held_in (slot_at slots.old name.now) ≡ None → slots.new ≡ slots.old }
+    ensures placed { OnHeld (IsPlaced file bytes.now) (held_under handed.old name.now)
+        (held_under handed.new name.now) }
+    ensures elsewhere { (n : DiskNameValue) → n ≢ name.now
+        → held_under handed.new n ≡ held_under handed.old n }
+    ensures disks { AsMany (disks_of handed.old) (disks_of handed.new) }
+    ensures shelves { AsMany (shelves_of handed.old) (shelves_of handed.new) }
 {
-    let Some(place) = place_of(slots, name) else {
-        return;
-    };
-    let slot = &mut slots[place];
-    let Some(mut disk) = slot.held.take() else {
+    let Some(mut disk) = handed.lend_disk(name) else {
         return;
     };
     disk.place(file, bytes);
-    slot.held = Some(disk);
+    handed.take_disk(name, disk);
 }
 
-/// Puts what a crash leaves of the disk under a name in its place, if it is there and not out.
-pub(crate) fn crash_held(slots: &mut [Slot<MemDisk>], name: &DiskName, pick: Pick)
-    ensures crashed { (d : MemDisk) → held_in (slot_at slots.old name.now) ≡ Some d
-        → ChangesHeld name.now (IsCrashed pick) slots.old slots.new }
-    ensures absent { held_in (slot_at slots.old name.now) ≡ None → slots.new ≡ slots.old }
+/// Puts what a crash leaves of the disk that is held of a name in its place.
+pub(crate) fn crash_held(handed: &mut HandedOut<MemDisk>, name: &DiskName, pick: Pick)
+    ensures crashed { OnHeld (IsCrashed pick) (held_under handed.old name.now)
+        (held_under handed.new name.now) }
+    ensures elsewhere { (n : DiskNameValue) → n ≢ name.now
+        → held_under handed.new n ≡ held_under handed.old n }
+    ensures disks { AsMany (disks_of handed.old) (disks_of handed.new) }
+    ensures shelves { AsMany (shelves_of handed.old) (shelves_of handed.new) }
 {
-    let Some(place) = place_of(slots, name) else {
-        return;
-    };
-    let slot = &mut slots[place];
-    let Some(disk) = slot.held.take() else {
-        return;
-    };
-    slot.held = Some(disk.crash(pick));
+    if let Some(disk) = handed.lend_disk(name) {
+        handed.take_disk(name, disk.crash(pick));
+    }
 }

@@ -1,7 +1,7 @@
 // A folder in memory, with disks by name.
 ghost use Rattle.std.specs.Prelude.{◌≡◌, Some};
 ghost use Rattle.disk_model.specs.MemoryDisk.{mem_name};
-ghost use Rattle.disk_model.specs.Slots.{slot_at, held_in};
+ghost use Rattle.disk_model.specs.HandedOut.{held_under};
 ghost use Rattle.disk_model.specs.declared.memory_disk.MemDisk.{MemDisk};
 ghost use Rattle.disk_model.specs.declared.names.DiskName.{DiskName};
 
@@ -11,11 +11,10 @@ use crate::host_steps::{
 };
 use crate::memory_disk::MemDisk;
 use crate::memory_shelf::MemShelf;
-use crate::names_held::{has_slot, held_of, one_in, one_out, put_held, take_held};
 use crate::new_disks::{files_of, new_disk};
 use crate::slots::Slot;
 use crate::tallies::Tally;
-use crate::{Disk, DiskName, Host, HostFault, Pick, Shelf};
+use crate::{Disk, DiskName, HandedOut, Host, HostFault, Pick, Shelf};
 use samza_model::{Bin, NoMemory, Plain};
 use std::alloc::Global;
 
@@ -26,16 +25,16 @@ pub struct MemHost {
     text: Option<Vec<u8>>,
     room: u64,
     calls: u64,
-    slots: Vec<Slot<MemDisk>>,
+    handed: HandedOut<MemDisk>,
     arms: Vec<Slot<Failing>>,
     tally: Tally,
     /// The word of the last call of `enter` that went well.
     entered: Option<Bin>,
-    ghost named: { (n : DiskName) (d : MemDisk) → held_in (slot_at slots.items n) ≡ Some d → mem_name d ≡ n },
+    ghost named: { (n : DiskName) (d : MemDisk) → held_under handed n ≡ Some d → mem_name d ≡ n },
 }
 
 impl MemHost {
-    ghost use Rattle.std.specs.Prelude.{◌≡◌, ◌≢◌, ◌+◌, ◌-◌, ℕ, [], None, false, IsTrue, ◌↔◌, IfOk, IfSome, OnOk, OnErr, max, length, MatchOption, option_map};
+    ghost use Rattle.std.specs.Prelude.{◌≡◌, ◌≢◌, ◌+◌, ◌-◌, ℕ, [], None, false, IsTrue, ◌↔◌, IfOk, IfSome, IsSome, OnOk, OnErr, max, length, MatchOption, option_map};
     ghost use Rattle.disk_model.specs.Capacities.{unused};
     ghost use Rattle.disk_model.specs.Handles.{AsMany, NoneOut};
     ghost use Rattle.disk_model.specs.Images.{Only, SameElsewhere};
@@ -43,7 +42,7 @@ impl MemHost {
     ghost use Rattle.disk_model.specs.Tallies.{fails_at};
     ghost use Rattle.disk_model.specs.MemoryDisk.{mem_states};
     ghost use Rattle.disk_model.specs.Picks.{IsPicked};
-    ghost use Rattle.disk_model.specs.Slots.{slot_at, text_in};
+    ghost use Rattle.disk_model.specs.Slots.{text_in};
     ghost use Rattle.disk_model.specs.declared.names.DiskName.{DiskName};
 
     /// A folder with this configuration and no files. `room` is the greatest size of one file and of the bytes that are
@@ -73,7 +72,7 @@ impl MemHost {
             text,
             room,
             calls,
-            slots: Vec::new(alloc),
+            handed: HandedOut::new(alloc),
             arms: Vec::new(alloc),
             tally: Tally {
                 calls: 0,
@@ -90,7 +89,7 @@ impl MemHost {
     pub fn file(&self, name: &DiskName, file: u32) -> &[u8]
         ensures { result.now ≡ host_reads self.now name.now file }
     {
-        match held_of(self.slots.as_slice(), name) {
+        match self.handed.held(name) {
             Some(disk) => disk.bytes(file),
             None => &[],
         }
@@ -98,7 +97,8 @@ impl MemHost {
 
     /// Makes a disk of this name, if there is none.
     fn ensure(&mut self, alloc: Global, name: &DiskName) -> Result<(), NoMemory>
-        ensures there { OnOk result (slot_at self.new.slots.items name.now ≡ None → ⊥) }
+        ensures there { OnOk result (host_disks_out self.old name.now ≡ 0
+            → IsSome (disk_of self.new name.now)) }
         ensures disks { (n : DiskName) → IsSameHeld self.old self.new n }
         ensures disks_out { AsMany (host_disks_out self.old) (host_disks_out self.new) }
         ensures shelves_out { AsMany (host_shelves_out self.old) (host_shelves_out self.new) }
@@ -109,17 +109,11 @@ impl MemHost {
         ensures told { SameHostTold self.old self.new }
         ensures capacity { (n : DiskName) → SameCapacity self.old self.new n }
     {
-        if has_slot(self.slots.as_slice(), name) {
+        if self.handed.is_known(name) {
             return Ok(());
         }
         let disk = new_disk(alloc, name, self.room, self.calls)?;
-        let name = name.copy(alloc)?;
-        self.slots.push(Slot {
-            name,
-            held: Some(disk),
-            shelves: 0,
-        })?;
-        Ok(())
+        self.handed.add(alloc, name, disk)
     }
 
     /// Whether so many bytes can stand in this file: a task's disk has 64 files and a stream's 256, which are numbered from
@@ -127,7 +121,7 @@ impl MemHost {
     pub fn fits(&self, name: &DiskName, file: u32, len: usize) -> bool
         ensures { IsTrue result ↔ CanPut self.now name.now file len }
     {
-        match held_of(self.slots.as_slice(), name) {
+        match self.handed.held(name) {
             Some(disk) => disk.can_place(file, len),
             None => file < files_of(name) && len as u64 <= self.room,
         }
@@ -157,7 +151,7 @@ impl MemHost {
         ensures capacity { (n : DiskName) → SameCapacity self.old self.new n }
     {
         self.ensure(self.alloc, name)?;
-        place_held(self.slots.as_mut_slice(), name, file, bytes);
+        place_held(&mut self.handed, name, file, bytes);
         Ok(())
     }
 
@@ -249,7 +243,7 @@ impl MemHost {
             → host_armed self.new n number ≡ host_armed self.old n number }
     {
         forget_arm(&mut self.arms, name);
-        crash_held(self.slots.as_mut_slice(), name, pick);
+        crash_held(&mut self.handed, name, pick);
     }
 }
 
@@ -357,7 +351,7 @@ impl Host for MemHost {
             return Err(HostFault::Device);
         }
         match stream_name(alloc, system, stream) {
-            Ok(name) => Ok(count_of_files(self.slots.as_slice(), &name)),
+            Ok(name) => Ok(count_of_files(&self.handed, &name)),
             Err(_) => Err(HostFault::NoMemory),
         }
     }
@@ -401,7 +395,7 @@ impl Host for MemHost {
             Ok(shelf) => shelf,
             Err(_) => return Err(HostFault::NoMemory),
         };
-        if !one_out(self.slots.as_mut_slice(), name) {
+        if !self.handed.lend_shelf(name) {
             return Err(HostFault::NoMemory);
         }
         Ok(shelf)
@@ -448,7 +442,7 @@ impl Host for MemHost {
         let Ok(failing) = failing_of(alloc, self.arms.as_slice(), name) else {
             return Err(HostFault::NoMemory);
         };
-        match take_held(self.slots.as_mut_slice(), name) {
+        match self.handed.lend_disk(name) {
             Some(disk) => Ok(as_handle(disk, failing)),
             None => Err(HostFault::NoMemory),
         }
@@ -468,7 +462,7 @@ impl Host for MemHost {
         ensures capacity { (n : DiskName) → SameCapacity self.old self.new n }
     {
         let faults = shelf.faults();
-        one_in(self.slots.as_mut_slice(), &shelf.name);
+        self.handed.take_shelf(&shelf.name);
         self.tally.add_faults(faults);
     }
 
@@ -491,7 +485,7 @@ impl Host for MemHost {
         ensures capacity { (n : DiskName) → n ≢ name.now → SameCapacity self.old self.new n }
     {
         let faults = disk.faults();
-        put_held(self.slots.as_mut_slice(), name, disk);
+        self.handed.take_disk(name, disk);
         self.tally.add_faults(faults);
     }
 

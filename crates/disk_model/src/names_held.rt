@@ -7,7 +7,7 @@ use crate::slots::Slot;
 use samza_model::Plain;
 
 /// The place of the first slot of this name.
-pub fn place_of<T>(slots: &[Slot<T>], name: &DiskName) -> Option<usize>
+pub(crate) fn place_of<T>(slots: &[Slot<T>], name: &DiskName) -> Option<usize>
     ensures { MatchOption result (slot_at slots.now name.now ≡ None)
         (λ i. IsPlace slots.now name.now i) }
 {
@@ -21,7 +21,7 @@ pub fn place_of<T>(slots: &[Slot<T>], name: &DiskName) -> Option<usize>
 }
 
 /// Takes out what stands under a name.
-pub fn take_held<T: Drop>(slots: &mut [Slot<T>], name: &DiskName) -> Option<T>
+pub(crate) fn take_held<T: Drop>(slots: &mut [Slot<T>], name: &DiskName) -> Option<T>
     ensures value { result ≡ held_in (slot_at slots.old name.now) }
     ensures changed { ChangesSlot name.now
         (λ s. record { name = s.name; held = None; shelves = s.shelves }) slots.old slots.new }
@@ -33,7 +33,7 @@ pub fn take_held<T: Drop>(slots: &mut [Slot<T>], name: &DiskName) -> Option<T>
 }
 
 /// Puts a value under a name whose slot is there.
-pub fn put_held<T: Drop>(slots: &mut [Slot<T>], name: &DiskName, value: T)
+pub(crate) fn put_held<T: Drop>(slots: &mut [Slot<T>], name: &DiskName, value: T)
     ensures changed { ChangesSlot name.now
         (λ s. record { name = s.name; held = Some value; shelves = s.shelves }) slots.old
         slots.new }
@@ -47,7 +47,7 @@ pub fn put_held<T: Drop>(slots: &mut [Slot<T>], name: &DiskName, value: T)
 
 /// Counts one shelf more that is out. It is false, and nothing changes, where no slot has the name or the count
 /// stands at its end.
-pub fn one_out<T>(slots: &mut [Slot<T>], name: &DiskName) -> bool
+pub(crate) fn one_out<T>(slots: &mut [Slot<T>], name: &DiskName) -> bool
     ensures changed { result ≡ true
         → ChangesSlot name.now
         (λ s. record { name = s.name; held = s.held; shelves = s.shelves + 1 }) slots.old
@@ -69,7 +69,7 @@ pub fn one_out<T>(slots: &mut [Slot<T>], name: &DiskName) -> bool
 }
 
 /// Counts one shelf less that is out.
-pub fn one_in<T>(slots: &mut [Slot<T>], name: &DiskName)
+pub(crate) fn one_in<T>(slots: &mut [Slot<T>], name: &DiskName)
     requires { 1 ≤ shelves_in (slot_at slots.old name.now) }
     ensures changed { ChangesSlot name.now
         (λ s. record { name = s.name; held = s.held; shelves = s.shelves - 1 }) slots.old
@@ -82,7 +82,7 @@ pub fn one_in<T>(slots: &mut [Slot<T>], name: &DiskName)
 }
 
 /// What stands under a name, if it is there and not out.
-pub fn held_of<'a, T>(slots: &'a [Slot<T>], name: &DiskName) -> Option<&'a T>
+pub(crate) fn held_of<'a, T>(slots: &'a [Slot<T>], name: &DiskName) -> Option<&'a T>
     ensures { MatchOption result (held_in (slot_at slots.now name.now) ≡ None)
         (λ t. held_in (slot_at slots.now name.now) ≡ Some t.now) }
 {
@@ -92,7 +92,7 @@ pub fn held_of<'a, T>(slots: &'a [Slot<T>], name: &DiskName) -> Option<&'a T>
 }
 
 /// Whether a slot has this name.
-pub fn has_slot<T>(slots: &[Slot<T>], name: &DiskName) -> bool
+pub(crate) fn has_slot<T>(slots: &[Slot<T>], name: &DiskName) -> bool
     ensures there { result ≡ true → slot_at slots.now name.now ≡ None → ⊥ }
     ensures none { result ≡ false → slot_at slots.now name.now ≡ None }
 {

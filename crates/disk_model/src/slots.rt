@@ -4,8 +4,8 @@ use crate::DiskName;
 
 /// What stands under a name: a value, or nothing while it is out, and how many shelves of it are out.
 #[derive(Drop)]
-pub struct Slot<T> {
-    pub name: DiskName,
-    pub held: Option<T>,
-    pub shelves: u64,
+pub(crate) struct Slot<T> {
+    pub(crate) name: DiskName,
+    pub(crate) held: Option<T>,
+    pub(crate) shelves: u64,
 }

@@ -2,7 +2,7 @@
 use Rattle.std.specs.Prelude.{ℕ, List, Option}
 use Rattle.disk_model.specs.declared.names.DiskName.{DiskName}
 use Rattle.file_host.specs.Entered.{entered_word}
-use Rattle.file_host.specs.HandedOut.{disks_of, shelves_of}
+use Rattle.disk_model.specs.HandedOut.{disks_of, shelves_of}
 use Rattle.file_host.specs.declared.causes.Cause.{Cause}
 use Rattle.file_host.specs.declared.folders.FileHost.{FileHost}
 

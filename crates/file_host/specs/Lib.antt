@@ -2,5 +2,4 @@ pub mod Causes
 pub mod Disks
 pub mod Entered
 pub mod Folders
-pub mod HandedOut
 pub mod Places

@@ -13,9 +13,9 @@ use crate::causes::{Cause, FileCall, Place, fault_of};
 use crate::entered::Entered;
 use crate::failures::Failures;
 use crate::folder_steps::{count_partitions, make_folder, open_file, read_text};
-use crate::handles::HandedOut;
+use crate::handles::{lend_disk, lend_shelf};
 use crate::{FileDisk, FileShelf};
-use disk_model::{Disk, DiskName, Host, HostFault, Shelf};
+use disk_model::{Disk, DiskName, HandedOut, Host, HostFault, Shelf};
 use samza_model::{Bin, Plain};
 use std::alloc::Global;
 use std::fs::File;
@@ -31,7 +31,7 @@ use std::rt::Files;
 pub struct FileHost<R: Files<File = File> + AllocGlobal + Clone + Drop> {
     files: R,
     entered: Entered,
-    handed: HandedOut,
+    handed: HandedOut<()>,
     failures: Failures<Cause>,
 }
 
@@ -138,7 +138,7 @@ impl<R: Files<File = File> + AllocGlobal + Clone + Send + Drop> Host for FileHos
             Ok(opened) => opened,
             Err(error) => return Err(self.failed(FileCall::Shelf, Place::File(own, file), error)),
         };
-        match self.handed.lend_shelf(alloc, name) {
+        match lend_shelf(&mut self.handed, alloc, name) {
             Ok(()) => Ok(FileShelf::new(opened, own, file)),
             Err(_) => Err(HostFault::NoMemory),
         }
@@ -153,7 +153,7 @@ impl<R: Files<File = File> + AllocGlobal + Clone + Send + Drop> Host for FileHos
             Ok(paths) => paths,
             Err(error) => return Err(self.failed(FileCall::Lend, Place::Folder(own), error)),
         };
-        match self.handed.lend_disk(alloc, name) {
+        match lend_disk(&mut self.handed, alloc, name) {
             Ok(()) => Ok(FileDisk::new(files, own, paths)),
             Err(_) => Err(HostFault::NoMemory),
         }
@@ -186,7 +186,7 @@ impl<R: Files<File = File> + AllocGlobal + Clone + Send + Drop> Host for FileHos
         ensures cause { folder_cause self.new ≡ option_or (folder_cause self.old)
             (disk_cause disk) }
     {
-        self.handed.take_disk(name);
+        self.handed.take_disk(name, ());
         self.failures.join(disk.into_failures());
     }
 
