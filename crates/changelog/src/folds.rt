@@ -1,7 +1,6 @@
 // What is made of a changelog's records as they are read.
 ghost use Rattle.std.specs.Prelude.{◌≡◌, ◌++◌, ◌∷◌, [], ℕ, List, IfOk, OnOk};
 ghost use Rattle.samza_model.specs.declared.messages.Record.{Record as RecordValue};
-ghost use Rattle.samza_model.specs.Content.{updated};
 ghost use Rattle.std.specs.FinMap as fin;
 ghost use Rattle.kv_store.specs.Tracked.{set_of};
 
@@ -58,7 +57,7 @@ impl Fold {
             return Ok(());
         }
         self.left -= 1;
-        put(&mut self.table, key, value)
+        self.table.update(key, value)
     }
 
     /// The map, and the keys in the order of their bytes.
@@ -77,17 +76,4 @@ fn in_order(alloc: Global, keys: BTreeSet<Bin>) -> Result<Vec<Bin>, NoMemory>
     ensures { IfOk result (λ sorted. sorted.items ≡ fin.keys (set_of keys.keys)) }
 {
     Ok(keys.into_iter().collect(alloc)?)
-}
-
-/// Sets the key to the value, or takes it away where there is none.
-fn put(table: &mut Table, key: Bin, value: Option<Bin>) -> Result<(), NoMemory>
-    ensures { OnOk result (table.new ≡ updated table.old key value) }
-{
-    match value {
-        Some(value) => table.put(key, value),
-        None => {
-            table.delete(&key);
-            Ok(())
-        }
-    }
 }

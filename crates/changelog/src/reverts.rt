@@ -4,11 +4,11 @@ ghost use Rattle.std.specs.List.{AllByRecursion};
 ghost use Rattle.samza_model.specs.declared.messages.Record.{Record as RecordValue};
 ghost use Rattle.samza_model.specs.Content.{foldrec, replayed};
 ghost use Rattle.samza_model.specs.Limits.{IsWithinLimits};
-ghost use Rattle.kv_store.specs.Tracked.{record_now, AreWithinLimits, records_of};
+ghost use Rattle.kv_store.specs.Tracked.{AreWithinLimits, records_of};
 ghost use Rattle.changelog.specs.Folds.{keys_of};
 
 use kv_store::Table;
-use samza_model::{Bin, NoMemory, Plain, Record};
+use samza_model::{Bin, NoMemory, Record};
 use std::alloc::Global;
 
 /// Each of the keys with its value in the table, or without one where the table doesn't have it. Of the table and the keys
@@ -25,21 +25,7 @@ pub fn revert(alloc: Global, table: &Table, touched: &[Bin]) -> Result<Vec<Recor
 {
     let mut records = Vec::with_capacity(alloc, touched.len())?;
     for key in touched {
-        records.push(record_at(alloc, table, key)?)?;
+        records.push(table.record_of(alloc, key)?)?;
     }
     Ok(records)
-}
-
-/// The key with its value in the table, or without one.
-fn record_at(alloc: Global, table: &Table, key: &Bin) -> Result<Record, NoMemory>
-    ensures { IfOk result (λ made. made ≡ record_now table.now key.now) }
-{
-    let value = match table.get(key) {
-        Some(value) => Some(value.copy(alloc)?),
-        None => None,
-    };
-    Ok(Record {
-        key: key.copy(alloc)?,
-        value,
-    })
 }

@@ -5,7 +5,7 @@ ghost use Rattle.kv_store.specs.Slots.{content_of};
 ghost use Rattle.kv_store.specs.Tracked.{no_keys, is_in, with_key, unmarked, record_now};
 
 use crate::slots::SlotMap;
-use samza_model::{Bin, NoMemory, Plain, Record};
+use samza_model::{Bin, NoMemory, Record};
 use std::alloc::Global;
 use std::collections::BTreeSet;
 use std::marker::Model;
@@ -75,7 +75,7 @@ impl KeySet {
     {
         let mut records = Vec::with_capacity(alloc, self.tree.len())?;
         for key in &self.tree {
-            records.push(record_of(alloc, slots, key)?)?;
+            records.push(slots.record_of(alloc, key)?)?;
         }
         Ok(records)
     }
@@ -88,17 +88,4 @@ impl KeySet {
             slots.drop_deleted(key);
         }
     }
-}
-
-fn record_of(alloc: Global, slots: &SlotMap, key: &Bin) -> Result<Record, NoMemory>
-    ensures { IfOk result (λ record_made. record_made ≡ record_now (content_of slots.now) key.now) }
-{
-    let value = match slots.get(key) {
-        Some(value) => Some(value.copy(alloc)?),
-        None => None,
-    };
-    Ok(Record {
-        key: key.copy(alloc)?,
-        value,
-    })
 }

@@ -4,8 +4,9 @@ ghost use Rattle.std.specs.Option.{option_map, option_copied, option_flatten};
 ghost use Rattle.std.specs.FinMap as map;
 ghost use Rattle.samza_model.specs.Content.{next_pair};
 ghost use Rattle.kv_store.specs.Slots.{content_of, with_slot};
+ghost use Rattle.kv_store.specs.Tracked.{record_now};
 
-use samza_model::{Bin, NoMemory};
+use samza_model::{Bin, NoMemory, Plain, Record};
 use std::alloc::Global;
 use std::collections::BTreeMap;
 use std::marker::Model;
@@ -50,6 +51,20 @@ impl SlotMap {
             Some(slot) => slot.as_ref(),
             None => None,
         }
+    }
+
+    /// The key with its value, or without one.
+    pub(crate) fn record_of(&self, alloc: Global, key: &Bin) -> Result<Record, NoMemory>
+        ensures { IfOk result (λ made. made ≡ record_now (content_of self.now) key.now) }
+    {
+        let value = match self.get(key) {
+            Some(value) => Some(value.copy(alloc)?),
+            None => None,
+        };
+        Ok(Record {
+            key: key.copy(alloc)?,
+            value,
+        })
     }
 
     /// The pair with the least key that isn't below this one and has a value. It passes over the deleted keys between.

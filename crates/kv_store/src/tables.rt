@@ -1,12 +1,13 @@
 // A plain table.
-ghost use Rattle.std.specs.Prelude.{◌≡◌, ◌↔◌, IsTrue, OnOk, OnErr, Some, None};
+ghost use Rattle.std.specs.Prelude.{◌≡◌, ◌↔◌, IsTrue, OnOk, OnErr, Some, None, IfOk};
 ghost use Rattle.std.specs.Option.{option_map, option_copied};
 ghost use Rattle.std.specs.FinMap as map;
 ghost use Rattle.kv_store.specs.Slots.{content_of};
+ghost use Rattle.kv_store.specs.Tracked.{record_now};
 ghost use Rattle.samza_model.specs.Content.{nothing_stored, updated, next_pair};
 
 use crate::slots::SlotMap;
-use samza_model::{Bin, NoMemory};
+use samza_model::{Bin, NoMemory, Record};
 use std::alloc::Global;
 use std::marker::Model;
 
@@ -46,6 +47,13 @@ impl Table {
         self.slots.get(key)
     }
 
+    /// The key with its value, or without one. Its one error is want of memory.
+    pub fn record_of(&self, alloc: Global, key: &Bin) -> Result<Record, NoMemory>
+        ensures { IfOk result (λ made. made ≡ record_now self.now key.now) }
+    {
+        self.slots.record_of(alloc, key)
+    }
+
     /// The pair with the least key that isn't below this one.
     pub fn next(&self, key: &Bin) -> Option<(&Bin, &Bin)>
         ensures { option_map (λ p. (p.0.now, p.1.now)) result ≡ next_pair self.now key.now }
@@ -67,6 +75,20 @@ impl Table {
         ensures { self.new ≡ updated self.old key.now None }
     {
         self.slots.take(key);
+    }
+
+    /// Sets the key's value, or takes the key away where there is none. Its one error is want of memory.
+    pub fn update(&mut self, key: Bin, value: Option<Bin>) -> Result<(), NoMemory>
+        ensures ok { OnOk result (self.new ≡ updated self.old key value) }
+        ensures err { OnErr result (self.new ≡ self.old) }
+    {
+        match value {
+            Some(value) => self.put(key, value),
+            None => {
+                self.delete(&key);
+                Ok(())
+            }
+        }
     }
 
     /// How many keys there are.
