@@ -103,8 +103,8 @@ impl Changelog {
     }
 
     /// The map that the first `count` records make, one after another, where a record with a value sets its key and one
-    /// without takes it away; and the distinct keys of the records behind them, in the order of their bytes. It reads one
-    /// batch at a time, so its memory grows with the map and these keys, and not with the log.
+    /// without takes it away; and the distinct keys of the records behind them, in the order of their bytes. It reads the file
+    /// a piece at a time, so its memory grows with the map and these keys, and not with the log.
     ///
     /// `Broken` comes exactly where an earlier call on this changelog answered `Device`. `Damaged` never comes where the
     /// disk tells its bytes, and `Limit` never.
@@ -147,18 +147,17 @@ impl Changelog {
         ensures name { D.name disk.new ≡ D.name disk.old }
     {
         let mut fold = Fold::new(alloc, count);
-        let mut place = self.log.start();
+        let mut unread = self.log.batches(alloc);
         'batches: loop {
-            let found = match self.log.batch(alloc, disk, place) {
+            let found = match unread.next(alloc, disk, &mut self.log) {
                 Ok(found) => found,
                 Err(fault) => return Err(fault),
             };
-            let (records, next) = match found {
-                Some(batch) => batch,
+            let records = match found {
+                Some(records) => records,
                 None => return Ok(fold.into_parts(alloc)?),
             };
             fold.read_all(records.into_vec())?;
-            place = next;
         }
     }
 

@@ -1,7 +1,7 @@
 -- A frame that is read from its place.
-use Rattle.std.proofs.Common.{min, ℕ, ◌≡◌, ◌^◌, ◌+◌, ◌-◌, ◌<◌, ◌≤◌, List, [], ◌∷◌, ◌++◌, length, take, drop, Result, Ok, Err, refl, sym, ◌∙◌, ap, subst, arith, append_assoc, length-append, length-drop, lit≤}
+use Rattle.std.proofs.Common.{ℕ, ◌≡◌, ◌^◌, ◌+◌, ◌-◌, ◌<◌, ◌≤◌, List, [], ◌∷◌, ◌++◌, length, take, drop, Result, Ok, Err, refl, sym, ◌∙◌, ap, subst, arith, append_assoc, length-append}
 use Rattle.std.specs.List.{AllByRecursion}
-use Rattle.std.proofs.lemmas.List.{take-take, take_min, length-take-le, take_at, drop_at, append-nil}
+use Rattle.std.proofs.lemmas.List.{take_at, drop_at, append-nil}
 use Rattle.samza_model.specs.declared.messages.Record.{Record}
 use Rattle.samza_model.specs.Files.{Image}
 use Rattle.samza_model.specs.Frames.{frame_bytes}
@@ -9,7 +9,10 @@ use Rattle.samza_model.specs.Logs.{spelled, joined}
 use Rattle.topic_log.specs.declared.extents.Place.{Place}
 use Rattle.topic_log.specs.declared.extents.Extent.{Extent}
 use Rattle.topic_log.specs.declared.logs.Log.{Log}
-use Rattle.topic_log.specs.Batches.{HasPlace}
+use Rattle.topic_log.specs.declared.windows.Window.{Window}
+use Rattle.topic_log.specs.Batches.{HasPlace, IsOn}
+use Rattle.topic_log.specs.Damage.{StopsAt}
+use Rattle.topic_log.specs.Walks.{seen}
 use Rattle.topic_log.specs.Extents.{StandsBehind, IsExtent}
 use Rattle.topic_log.specs.Opened.{IsOpen}
 use Rattle.topic_log.proofs.Spelling.{spelled-append, joined-append, spelled-push, joined-push, some_bytes, no_frames, all_back}
@@ -25,25 +28,17 @@ module _ (bytes : List ℕ) (records : List Record) (rest : List ℕ) (fits : Is
   pub whole_stays : (place : ℕ) → frame_at bytes ≡ Err place → ⊥
   whole_stays place bad = let both : ◌≡◌ {A = Result (List Record × ℕ) ℕ} (Err place) (Ok (records, length (frame_bytes records))) = sym bad ∙ whole_read in absurd cc
 
--- the frame within the room is read from its own bytes
-module _ (file : List ℕ) (at room : ℕ) (inside : at + room ≤ length file) (records : List Record) (rest : List ℕ) (fits : IsFrameable records) (split : take room (drop at file) ≡ frame_bytes records ++ rest) where
-  pub room_is : room ≡ length (take room (drop at file))
-  room_is = sym (length-take-le room (drop at file) (omega (arith, length-drop at file, inside)))
+-- the frame is read from its own bytes
+module _ (file : List ℕ) (size at : ℕ) (records : List Record) (rest : List ℕ) (fits : IsFrameable records) (split : seen size at file ≡ frame_bytes records ++ rest) where
+  pub seen_stays : (from place : ℕ) → StopsAt (seen size at file) from place → ⊥
+  seen_stays from place s = whole_stays (seen size at file) records rest fits split s.place s.stops
 
-  pub header_is : (header front : List ℕ) (n : ℕ) → n ≡ min room 16384 → front ≡ take n (drop at file) → header ≡ take 8 front → header ≡ take 8 (take room (drop at file))
-  header_is header front n n_is is cut =
-      let le : n ≤ room = omega (arith, n_is) in
-      let whole : List ℕ = take room (drop at file) in
-      let same : n ≡ min 16384 (length whole) = omega (arith, room_is, n_is) in
-      let front_is : front ≡ take 16384 whole = is ∙ sym (take-take n room (drop at file) le) ∙ ap (λ (k : ℕ). take k whole) same ∙ take_min 16384 whole in
-      cut ∙ ap (take 8) front_is ∙ take-take 8 16384 whole (lit≤ tt)
+  pub frame_is : (n : ℕ) (view : List ℕ) → view ≡ take n (drop at file) → frame_at (take n (drop at file)) ≡ frame_at (seen size at file) → frame_at view ≡ Ok (records, length (frame_bytes records))
+  frame_is n view is same = ap frame_at is ∙ same ∙ whole_read (seen size at file) records rest fits split
 
-  pub frame_is : (n : ℕ) (view : List ℕ) → n ≤ room → view ≡ take n (drop at file) → frame_at (take n (take room (drop at file))) ≡ frame_at (take room (drop at file)) → frame_at view ≡ Ok (records, length (frame_bytes records))
-  frame_is n view le is same = ap frame_at (is ∙ sym (take-take n room (drop at file) le)) ∙ same ∙ whole_read (take room (drop at file)) records rest fits split
-
--- bytes of a file that are at hand, and more of them than are looked at
-pub front_view : (file bytes view : List ℕ) (at len : ℕ) → bytes ≡ take (length bytes) (drop at file) → len ≤ length bytes → view ≡ take len bytes → view ≡ take len (drop at file)
-front_view file bytes view at len shows le is = is ∙ ap (take len) shows ∙ take-take len (length bytes) (drop at file) le
+-- what a window on a log sees
+pub seen_is : (reads : Image) (log : Log) (window : Window) → IsOn log window → (at : ℕ) → seen window.size at (reads window.file) ≡ seen log.extent.gate at (reads log.file)
+seen_is reads log window on at = ap (λ (n : ℕ). seen n at (reads window.file)) on.size ∙ ap (λ (f : ℕ). seen log.extent.gate at (reads f)) on.file
 
 -- the frame at a place
 pub record NextFrame (file : List ℕ) (frames before : List (List Record)) (at room : ℕ) : Type 0 where

@@ -1,6 +1,6 @@
 -- A file that is walked from gate to gate.
-use Rattle.std.proofs.Common.{ℕ, ◌≡◌, ◌+◌, ◌-◌, ◌<◌, ◌≤◌, List, ◌∷◌, ◌++◌, length, take, drop, get_or, Result, Ok, Err, refl, sym, ◌∙◌, ap, subst, arith, append_assoc, length-append, take-append-drop, get_or-take, get_or-drop}
-use Rattle.std.proofs.lemmas.List.{take-take, drop-take, drop-drop, drop_more, drop_all}
+use Rattle.std.proofs.Common.{ℕ, ◌≡◌, ◌+◌, ◌-◌, ◌<◌, ◌≤◌, List, ◌∷◌, ◌++◌, length, take, drop, get_or, Result, Ok, Err, refl, sym, ◌∙◌, ap, subst, arith, append_assoc, length-append, take-append-drop, get_or-take, get_or-drop, length-drop}
+use Rattle.std.proofs.lemmas.List.{take-take, drop-take, drop-drop, drop_more, drop_all, take_all, length-take-le}
 use Rattle.samza_model.specs.declared.messages.Record.{Record}
 use Rattle.samza_model.specs.Files.{Image}
 use Rattle.samza_model.specs.Frames.{frame_bytes}
@@ -11,7 +11,7 @@ use Rattle.topic_log.specs.declared.faults.LogFault.{LogFault}
 use Rattle.topic_log.specs.declared.faults.LogFault.TheVariants.{Damaged, Limit, Broken}
 use Rattle.topic_log.specs.declared.windows.Window.{Window}
 use Rattle.topic_log.specs.Faults.{IsReadFault, IsWalkFault}
-use Rattle.topic_log.specs.Walks.{Shows, Covers}
+use Rattle.topic_log.specs.Walks.{Shows, Covers, seen}
 use Rattle.topic_log.specs.Damage.{StopsAt, IsDamage}
 use Rattle.topic_log.proofs.Headers.{frame_within}
 
@@ -28,6 +28,17 @@ view_is w bytes at len shows covers =
     ∙ ap (λ (l : List ℕ). take len l) (drop-take k m (drop w.from bytes))
     ∙ take-take len m (drop k (drop w.from bytes)) fits
     ∙ ap (λ (l : List ℕ). take len l) (drop-drop k w.from bytes ∙ ap (λ (j : ℕ). drop j bytes) place)
+
+-- what stands from a byte on among the first so many
+module _ (size at : ℕ) (file : List ℕ) where
+  pub seen_long : size ≤ length file → size - at ≡ length (seen size at file)
+  seen_long inside = sym (length-take-le (size - at) (drop at file) (omega (arith, length-drop at file, inside)))
+
+  pub seen_front : (n : ℕ) → n ≤ size - at → take n (seen size at file) ≡ take n (drop at file)
+  seen_front n le = take-take n (size - at) (drop at file) le
+
+  pub seen_all : size ≡ length file → seen size at file ≡ drop at file
+  seen_all whole = take_all (size - at) (drop at file) (omega (arith, length-drop at file, whole))
 
 -- want of memory and the device are no damage
 pub no_damage : (e : LogFault) (at : ℕ) → IsReadFault e → e ≡ Damaged at → ⊥

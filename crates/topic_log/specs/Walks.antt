@@ -1,5 +1,5 @@
 -- What is seen of a file that is read in pieces.
-use Rattle.std.specs.Prelude.{ℕ, ◌≡◌, ◌≢◌, ◌+◌, ◌≤◌, ◌⊎◌, List, [], ◌∷◌, length, take, drop, Option, Some, None}
+use Rattle.std.specs.Prelude.{ℕ, ◌≡◌, ◌≢◌, ◌+◌, ◌-◌, ◌≤◌, ◌⊎◌, List, [], ◌∷◌, length, take, drop, Option, Some, None}
 use Rattle.samza_model.specs.declared.messages.Record.{Record}
 use Rattle.samza_model.specs.Files.{Image}
 use Rattle.samza_model.specs.Logs.{ReadsAs}
@@ -14,6 +14,10 @@ use Rattle.topic_log.specs.Opened.{IsLeft}
 -- the window has the bytes of the file from its first one on
 abbrev pub Shows : Window → List ℕ → Type 0
 Shows w bytes = w.bytes.items ≡ take (length w.bytes.items) (drop w.from bytes)
+
+-- what stands from this byte on among the first so many
+abbrev pub seen : ℕ → ℕ → List ℕ → List ℕ
+seen size at bytes = take (size - at) (drop at bytes)
 
 -- these bytes of the file are in the window
 pub record Covers (w : Window) (at len : ℕ) : Type 0 where

@@ -1,18 +1,20 @@
-// One batch of a log's file.
-ghost use Rattle.std.specs.Prelude.{◌≡◌, ◌≢◌, ◌+◌, ◌^◌, ◌<◌, ◌≤◌, ◌++◌, ℕ, List, Ok, length, take, drop, IfOk, IfErr, OnOk};
+// The batches of a log's file.
+ghost use Rattle.std.specs.Prelude.{◌≡◌, ◌≢◌, ◌+◌, ◌^◌, ◌<◌, ◌≤◌, ◌⊎◌, ◌↔◌, ◌++◌, ◌∷◌, [], ℕ, true, false, List, Ok, None, length, IfOk, IfErr, IfSome, MatchOption, OnOk, OnErr};
 ghost use Rattle.samza_model.specs.declared.messages.Record.{Record};
 ghost use Rattle.samza_model.specs.Counters.{Rose};
 ghost use Rattle.samza_model.specs.Frames.{frame_bytes};
 ghost use Rattle.std.specs.List.{AllByRecursion};
 ghost use Rattle.samza_model.specs.Limits.{IsWithinLimits, IsFrameable};
 ghost use Rattle.log_frame.specs.Reading.{frame_at};
-ghost use Rattle.topic_log.specs.Faults.{IsReadFault, IsWalkFault};
+ghost use Rattle.topic_log.specs.Faults.{IsWalkFault};
 ghost use Rattle.topic_log.specs.Moves.{Rests};
+ghost use Rattle.topic_log.specs.Walks.{Shows, seen};
 
-use crate::LogFault;
-use crate::windows::{fill, frame_size};
+use crate::windows::Window;
+use crate::{Log, LogFault, Place};
 use disk_model::Disk;
 use log_frame::{Decoded, FrameFault, decode};
+use samza_model::{Items, Record};
 use std::alloc::Global;
 
 /// The frame that begins the bytes, where these begin at `at` of the file.
@@ -36,62 +38,29 @@ fn frame_in(alloc: Global, at: u64, bytes: &[u8]) -> Result<Decoded, LogFault>
     }
 }
 
-/// How many bytes of a frame are read at first, where the log has as many. A frame that has no more is read by one call.
-const FRONT: u64 = 16_384;
-
-/// The first 8 of the bytes, where there are as many.
-fn header_in(bytes: &[u8]) -> &[u8]
-    ensures { result.now ≡ take 8 bytes.now }
-{
-    bytes.split_at(bytes.len().min(8)).0
-}
-
-/// Has so many bytes of a file at hand, from `at` on. Those that are there stand there.
-fn fill_up<D: Disk>(
-    disk: &mut D,
-    file: u32,
-    at: u64,
-    len: u64,
-    bytes: &mut Vec<u8>,
-) -> Result<(), LogFault>
-    requires inside { D.tells → at + len ≤ length (D.reads disk.old file) }
-    requires so_far { D.tells
-        → bytes.old.items ≡ take (length bytes.old.items) (drop at (D.reads disk.old file)) }
-    ensures bytes { OnOk result (D.tells
-        → bytes.new.items ≡ take (length bytes.new.items) (drop at (D.reads disk.old file))) }
-    ensures len { OnOk result (len ≤ length bytes.new.items) }
-    ensures rests { D.tells
-        → Rests D.reads D.call_number D.images D.images_since disk.old disk.new }
-    ensures fault { IfErr result IsReadFault }
-    ensures device { IfErr result (λ e. e ≡ LogFault.Device
-        → Rose (D.fault_count disk.old) (D.fault_count disk.new)) }
-    ensures later { D.fault_count disk.old ≤ D.fault_count disk.new }
-    ensures name { D.name disk.new ≡ D.name disk.old }
-{
-    if len <= bytes.len() as u64 {
-        return Ok(());
-    }
-    fill(disk, file, at, len, bytes)
-}
-
-/// Reads the frame that begins at `at`, and is within so many bytes.
+/// Reads the frame that begins at `at`, and is within what the window is of.
 pub(crate) fn read_frame<D: Disk>(
     alloc: Global,
     disk: &mut D,
-    file: u32,
+    window: &mut Window,
     at: u64,
-    room: u64,
 ) -> Result<Decoded, LogFault>
-    requires small { at + room < 2 ^ 62 }
-    requires inside { D.tells → at + room ≤ length (D.reads disk.old file) }
-    ensures within { IfOk result (λ d. d.used ≤ room) }
+    requires at { at ≤ window.old.size }
+    requires small { window.old.size < 2 ^ 62 }
+    requires size { D.tells → window.old.size ≤ length (D.reads disk.old window.old.file) }
+    requires shows { D.tells → Shows window.old (D.reads disk.old window.old.file) }
+    ensures within { IfOk result (λ d. at + d.used ≤ window.old.size) }
     ensures limits { IfOk result (λ d. AllByRecursion IsWithinLimits d.records) }
     ensures frame { D.tells → (records : List Record) (rest : List ℕ) → IsFrameable records
-        → take room (drop at (D.reads disk.old file)) ≡ frame_bytes records ++ rest
+        → seen window.old.size at (D.reads disk.old window.old.file) ≡ frame_bytes records ++ rest
         → IfOk result (λ d. (d.records ≡ records) × (d.used ≡ length (frame_bytes records))) }
     ensures whole { D.tells → (records : List Record) (rest : List ℕ) → IsFrameable records
-        → take room (drop at (D.reads disk.old file)) ≡ frame_bytes records ++ rest
+        → seen window.old.size at (D.reads disk.old window.old.file) ≡ frame_bytes records ++ rest
         → IfErr result (λ e. (place : ℕ) → e ≢ LogFault.Damaged place) }
+    ensures file { window.new.file ≡ window.old.file }
+    ensures size { window.new.size ≡ window.old.size }
+    ensures shows { OnOk result (D.tells
+        → Shows window.new (D.reads disk.old window.old.file)) }
     ensures rests { D.tells
         → Rests D.reads D.call_number D.images D.images_since disk.old disk.new }
     ensures fault { IfErr result IsWalkFault }
@@ -100,17 +69,83 @@ pub(crate) fn read_frame<D: Disk>(
     ensures later { D.fault_count disk.old ≤ D.fault_count disk.new }
     ensures name { D.name disk.new ≡ D.name disk.old }
 {
-    let mut bytes = Vec::new(alloc);
-    if let Err(fault) = fill(disk, file, at, room.min(FRONT), &mut bytes) {
-        return Err(fault);
-    }
-    let len = match frame_size(header_in(bytes.as_slice()), room) {
+    let len = match window.size_at(disk, at) {
         Ok(len) => len,
-        Err(bad) => return Err(LogFault::Damaged { at: at + bad.at }),
+        Err(fault) => return Err(fault),
     };
-    if let Err(fault) = fill_up(disk, file, at, len, &mut bytes) {
-        return Err(fault);
+    window.load(disk, at, len)?;
+    frame_in(alloc, at, window.view(at, len))
+}
+
+/// The batches of a log, read one after another from the first one on. A piece of the file is read at once, so that those
+/// that lie in one piece take one call of the disk.
+#[derive(Debug, Drop)]
+pub struct Batches {
+    pub(crate) place: Place,
+    pub(crate) window: Window,
+}
+
+impl Batches {
+    ghost use Rattle.topic_log.specs.declared.logs.Log.{Log};
+    ghost use Rattle.topic_log.specs.Batches.{byte_of, AreOf, HasBatches};
+    ghost use Rattle.topic_log.specs.Opened.{file_of, size_of, is_broken, IsOpen, KeepsExtent};
+
+    /// The records of the next batch; `None` at the end. The log is the one that gave these batches, to which nothing was
+    /// appended since. After `Device` it is broken. After an error these batches are not read on: take new ones.
+    pub fn next<D: Disk>(
+        &mut self,
+        alloc: Global,
+        disk: &mut D,
+        log: &mut Log,
+    ) -> Result<Option<Items<Record>>, LogFault>
+        requires of { AreOf log.old self.old }
+        requires place { D.tells → is_broken log.old ≡ false → (frames : List (List Record))
+            × ((before : List (List Record))
+            × HasBatches (D.reads disk.old) (D.images disk.old) log.old self.old frames before) }
+
+        ensures batch { IfOk result (λ o. D.tells → (frames before : List (List Record))
+            → HasBatches (D.reads disk.old) (D.images disk.old) log.old self.old frames before
+            → MatchOption o (before ≡ frames) (λ records.
+            HasBatches (D.reads disk.new) (D.images disk.new) log.new self.new frames
+            (before ++ records ∷ []))) }
+        ensures of { AreOf log.new self.new }
+
+        // The place behind is further on, and within the file; and the records are within the limits. Every disk gives that.
+        ensures forward { IfOk result (λ o. IfSome o (λ _. (byte_of self.old < byte_of self.new)
+            × (byte_of self.new < size_of log.old))) }
+        ensures limits { IfOk result (λ o. IfSome o (λ records. AllByRecursion IsWithinLimits records)) }
+        ensures end { result ≡ Ok None → size_of log.old ≤ byte_of self.old + 1 }
+
+        // Nothing changes on the disk, and the logs stay open.
+        ensures rests { D.tells
+            → Rests D.reads D.call_number D.images D.images_since disk.old disk.new }
+        ensures reads { D.tells → D.reads disk.new ≡ D.reads disk.old }
+        ensures others { D.tells → (l : Log) (frames : List (List Record))
+            → IsOpen (D.reads disk.old) (D.images disk.old) l frames
+            → IsOpen (D.reads disk.new) (D.images disk.new) l frames }
+
+        ensures ok { OnOk result ((is_broken log.old ≡ false) × (log.new ≡ log.old)) }
+        ensures broken { IfErr result (λ e. (e ≡ LogFault.Broken) ↔ (is_broken log.old ≡ true)) }
+        ensures sane { IfErr result (λ e. D.tells → (at : ℕ) → e ≢ LogFault.Damaged at) }
+        ensures device { IfErr result (λ e. e ≡ LogFault.Device
+            → Rose (D.fault_count disk.old) (D.fault_count disk.new)) }
+        ensures never { IfErr result (λ e. e ≢ LogFault.Limit) }
+
+        ensures breaks { IfErr result (λ e. (is_broken log.new ≡ true)
+            ↔ ((e ≡ LogFault.Broken) ⊎ (e ≡ LogFault.Device))) }
+        ensures kept { IfErr result (λ e. e ≢ LogFault.Device → log.new ≡ log.old) }
+        ensures extent { OnErr result (KeepsExtent log.old log.new) }
+        ensures file { file_of log.new ≡ file_of log.old }
+        ensures later { D.fault_count disk.old ≤ D.fault_count disk.new }
+        ensures name { D.name disk.new ≡ D.name disk.old }
+    {
+        match log.batch_in(alloc, disk, &mut self.window, self.place) {
+            Ok(Some((records, place))) => {
+                self.place = place;
+                Ok(Some(records))
+            }
+            Ok(None) => Ok(None),
+            Err(fault) => Err(fault),
+        }
     }
-    let (frame, _) = bytes.as_slice().split_at(len as usize);
-    frame_in(alloc, at, frame)
 }

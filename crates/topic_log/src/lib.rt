@@ -12,6 +12,7 @@ mod shelf_logs;
 mod staging;
 mod windows;
 
+pub use batches::Batches;
 pub use extents::Place;
 pub use faults::LogFault;
 pub use logs::Log;

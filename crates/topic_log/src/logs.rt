@@ -9,20 +9,26 @@ ghost use Rattle.disk_model.specs.Images.{SameElsewhere, Keeps, LeavesOnly};
 ghost use Rattle.log_frame.specs.Frame.{IsFrame, AreFrames};
 ghost use Rattle.topic_log.specs.Damage.{IsDamagedAt};
 ghost use Rattle.topic_log.specs.Extents.{StandsBehind, IsLastOf};
-ghost use Rattle.topic_log.specs.Moves.{Same};
+ghost use Rattle.topic_log.specs.Moves.{Rests, Same};
 ghost use Rattle.topic_log.specs.Growth.{HasRoom, LacksRoom};
 ghost use Rattle.topic_log.specs.Steps.{closed_frames, record_count};
+ghost use Rattle.topic_log.specs.Walks.{Shows};
 
-use crate::batches::read_frame;
+use crate::batches::{Batches, read_frame};
 use crate::extents::Extent;
 use crate::opening::{look, settle};
 use crate::staging::put_behind;
+use crate::windows::{PIECE, Window};
 use crate::{LogFault, Place};
 use disk_model::Disk;
 use log_frame::{Decoded, Frame};
 use samza_model::{Items, Record};
 use std::alloc::Global;
 use std::slice;
+
+/// How many bytes of a frame that is read by its place are read at first, where the log has as many. A frame that has no
+/// more is read by one call.
+const FRONT: u64 = 16_384;
 
 /// A log that is open: one file of a disk, to which nothing else writes.
 #[derive(Debug, Drop)]
@@ -34,7 +40,7 @@ pub struct Log {
 
 impl Log {
     ghost use Rattle.topic_log.specs.declared.logs.Log.{Log};
-    ghost use Rattle.topic_log.specs.Batches.{HasPlace, IsNext};
+    ghost use Rattle.topic_log.specs.Batches.{AreOf, AreUnread, HasPlace, IsNext, IsOn};
     ghost use Rattle.topic_log.specs.Opened.{file_of, count_of, size_of, is_broken, HasExtent, IsLeft, IsOpen, Appends, KeepsExtent, KeepsFrames};
 
     /// Opens the log of a file, which may be empty: reads it through, and leaves one closed gate behind its frames.
@@ -316,6 +322,64 @@ impl Log {
         ensures later { D.fault_count disk.old ≤ D.fault_count disk.new }
         ensures name { D.name disk.new ≡ D.name disk.old }
     {
+        let mut window = self.window(alloc, FRONT);
+        self.batch_in(alloc, disk, &mut window, place)
+    }
+
+    /// The same through a window on this log, which has more of the file at hand then.
+    pub(crate) fn batch_in<D: Disk>(
+        &mut self,
+        alloc: Global,
+        disk: &mut D,
+        window: &mut Window,
+        place: Place,
+    ) -> Result<Option<(Items<Record>, Place)>, LogFault>
+        requires on { IsOn self.old window.old }
+        requires shows { D.tells → is_broken self.old ≡ false
+            → Shows window.old (D.reads disk.old (file_of self.old)) }
+        requires place { D.tells → is_broken self.old ≡ false → (frames : List (List Record))
+            × ((before : List (List Record))
+            × HasPlace (D.reads disk.old) (D.images disk.old) self.old place frames before) }
+
+        ensures batch { IfOk result (λ o. D.tells → (frames before : List (List Record))
+            → HasPlace (D.reads disk.old) (D.images disk.old) self.old place frames before
+            → IsNext frames before o) }
+        ensures on { IsOn self.new window.new }
+        ensures shows { OnOk result (D.tells
+            → Shows window.new (D.reads disk.new (file_of self.new))) }
+
+        // The place behind is further on, and within the file; and the records are within the limits. Every disk gives that.
+        ensures forward { IfOk result (λ o. IfSome o (λ b. (place.byte < b.1.byte)
+            × (b.1.byte < size_of self.old))) }
+        ensures limits { IfOk result (λ o. IfSome o (λ b. AllByRecursion IsWithinLimits b.0)) }
+        ensures end { result ≡ Ok None → size_of self.old ≤ place.byte + 1 }
+
+        // Nothing changes on the disk, and the logs stay open.
+        ensures rests { D.tells
+            → Rests D.reads D.call_number D.images D.images_since disk.old disk.new }
+        ensures reads { D.tells → D.reads disk.new ≡ D.reads disk.old }
+        ensures stays { D.tells → (frames : List (List Record))
+            → IsOpen (D.reads disk.old) (D.images disk.old) self.old frames
+            → IsOpen (D.reads disk.new) (D.images disk.new) self.new frames }
+        ensures others { D.tells → (log : Log) (frames : List (List Record))
+            → IsOpen (D.reads disk.old) (D.images disk.old) log frames
+            → IsOpen (D.reads disk.new) (D.images disk.new) log frames }
+
+        ensures ok { OnOk result ((is_broken self.old ≡ false) × (self.new ≡ self.old)) }
+        ensures broken { IfErr result (λ e. (e ≡ LogFault.Broken) ↔ (is_broken self.old ≡ true)) }
+        ensures sane { IfErr result (λ e. D.tells → (at : ℕ) → e ≢ LogFault.Damaged at) }
+        ensures device { IfErr result (λ e. e ≡ LogFault.Device
+            → Rose (D.fault_count disk.old) (D.fault_count disk.new)) }
+        ensures never { IfErr result (λ e. e ≢ LogFault.Limit) }
+
+        ensures breaks { IfErr result (λ e. (is_broken self.new ≡ true)
+            ↔ ((e ≡ LogFault.Broken) ⊎ (e ≡ LogFault.Device))) }
+        ensures kept { IfErr result (λ e. e ≢ LogFault.Device → self.new ≡ self.old) }
+        ensures extent { OnErr result (KeepsExtent self.old self.new) }
+        ensures file { file_of self.new ≡ file_of self.old }
+        ensures later { D.fault_count disk.old ≤ D.fault_count disk.new }
+        ensures name { D.name disk.new ≡ D.name disk.old }
+    {
         if self.broken {
             return Err(LogFault::Broken);
         }
@@ -324,7 +388,7 @@ impl Log {
             return Ok(None);
         }
         let at = place.byte + 1;
-        match read_frame(alloc, disk, self.file, at, end - at) {
+        match read_frame(alloc, disk, window, at) {
             Ok(decoded) => Ok(Some(behind(place, decoded))),
             Err(fault) => {
                 if fault.is_device() {
@@ -334,6 +398,25 @@ impl Log {
                 Err(fault)
             }
         }
+    }
+
+    /// The log's batches, of which none is read yet.
+    pub fn batches(&self, alloc: Global) -> Batches
+        ensures of { AreOf self.now result }
+        ensures unread { AreUnread result }
+    {
+        Batches {
+            place: self.start(),
+            window: self.window(alloc, PIECE),
+        }
+    }
+
+    /// A window on the log's gates and frames, which shows nothing yet.
+    fn window(&self, alloc: Global, piece: u64) -> Window
+        ensures on { IsOn self.now result }
+        ensures shows { (bytes : List ℕ) → Shows result bytes }
+    {
+        Window::new(alloc, self.file, self.extent.gate, piece)
     }
 }
 

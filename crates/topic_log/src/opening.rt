@@ -10,7 +10,7 @@ ghost use Rattle.topic_log.specs.Walks.{Reaches, Finds, IsGate, LacksGate, Settl
 use crate::LogFault;
 use crate::calls::{cut, read, size, sync, write};
 use crate::extents::Extent;
-use crate::windows::Window;
+use crate::windows::{PIECE, Window};
 use disk_model::Disk;
 use log_frame::{CLOSED_GATE, OPEN_GATE};
 use std::alloc::Global;
@@ -35,7 +35,7 @@ fn walk<D: Disk>(alloc: Global, disk: &mut D, file: u32, size: u64) -> Result<Ex
     ensures later { D.fault_count disk.old ≤ D.fault_count disk.new }
     ensures name { D.name disk.new ≡ D.name disk.old }
 {
-    let mut window = Window::new(alloc, file, size);
+    let mut window = Window::new(alloc, file, size, PIECE);
     let mut extent = Extent::start();
     'gates: loop {
         match window.batch_at(disk, extent.gate) {

@@ -13,20 +13,21 @@ use disk_model::Disk;
 use log_frame::{BadAt, Checked, OPEN_GATE, check, frame_len};
 use std::alloc::Global;
 
-/// How many bytes are read at once, where the file has as many.
-const CHUNK: u64 = 1 << 16;
+/// How many bytes are read at once where a file is gone through, and has as many.
+pub(crate) const PIECE: u64 = 1 << 16;
 
-/// Some of a file's bytes: a chunk, or a whole frame where that is longer.
+/// Some of the first `size` bytes of a file: a piece of them, or a whole frame where that is longer.
 #[derive(Debug, Drop)]
 pub(crate) struct Window {
     pub(crate) file: u32,
     pub(crate) size: u64,
+    piece: u64,
     from: u64,
     bytes: Vec<u8>,
 }
 
 /// Reads so many bytes of a file.
-pub(crate) fn fill<D: Disk>(
+fn fill<D: Disk>(
     disk: &mut D,
     file: u32,
     at: u64,
@@ -51,7 +52,7 @@ pub(crate) fn fill<D: Disk>(
 
 /// How many bytes the frame has that begins with these bytes, of which the first 8 suffice, where so many stand from its
 /// first one on.
-pub(crate) fn frame_size(header: &[u8], room: u64) -> Result<u64, BadAt>
+fn frame_size(header: &[u8], room: u64) -> Result<u64, BadAt>
     ensures within { IfOk result (λ n. (8 ≤ n) × (n ≤ room)) }
     ensures near { IfErr result (λ e. e.at ≤ 4) }
     ensures frame { (bytes : List ℕ) → header.now ≡ take 8 bytes → room ≡ length bytes
@@ -66,10 +67,10 @@ pub(crate) fn frame_size(header: &[u8], room: u64) -> Result<u64, BadAt>
 }
 
 impl Window {
-    ghost use Rattle.topic_log.specs.Walks.{Shows, Covers, IsBatch};
+    ghost use Rattle.topic_log.specs.Walks.{Shows, Covers, IsBatch, seen};
 
-    /// A window that shows nothing yet.
-    pub(crate) fn new(alloc: Global, file: u32, size: u64) -> Window
+    /// A window that shows nothing yet. So many bytes are read at once, where there are as many.
+    pub(crate) fn new(alloc: Global, file: u32, size: u64, piece: u64) -> Window
         ensures file { result.file ≡ file }
         ensures size { result.size ≡ size }
         ensures shows { (bytes : List ℕ) → Shows result bytes }
@@ -77,6 +78,7 @@ impl Window {
         Window {
             file,
             size,
+            piece,
             from: 0,
             bytes: Vec::new(alloc),
         }
@@ -93,10 +95,10 @@ impl Window {
     }
 
     /// Has these bytes of the file at hand.
-    fn load<D: Disk>(&mut self, disk: &mut D, at: u64, len: u64) -> Result<(), LogFault>
+    pub(crate) fn load<D: Disk>(&mut self, disk: &mut D, at: u64, len: u64) -> Result<(), LogFault>
         requires inside { at + len ≤ self.old.size }
         requires small { self.old.size < 2 ^ 62 }
-        requires size { D.tells → self.old.size ≡ length (D.reads disk.old self.old.file) }
+        requires size { D.tells → self.old.size ≤ length (D.reads disk.old self.old.file) }
         requires shows { D.tells → Shows self.old (D.reads disk.old self.old.file) }
         ensures covers { OnOk result (Covers self.new at len) }
         ensures shows { OnOk result (D.tells → Shows self.new (D.reads disk.old self.old.file)) }
@@ -113,13 +115,13 @@ impl Window {
         if self.covers(at, len) {
             return Ok(());
         }
-        let chunk = CHUNK.min(self.size - at);
+        let piece = self.piece.min(self.size - at);
         self.from = at;
-        fill(disk, self.file, at, chunk.max(len), &mut self.bytes)
+        fill(disk, self.file, at, piece.max(len), &mut self.bytes)
     }
 
     /// These bytes of the file.
-    fn view(&self, at: u64, len: u64) -> &[u8]
+    pub(crate) fn view(&self, at: u64, len: u64) -> &[u8]
         requires { Covers self.now at len }
         ensures view { result.now ≡ take len (drop (at - self.now.from) self.now.bytes.items) }
         ensures len { length result.now ≡ len }
@@ -130,17 +132,17 @@ impl Window {
 
     /// The number of bytes of the frame that begins here; its records are not looked at. Damaged where it has no header,
     /// or isn't whole.
-    fn size_at<D: Disk>(&mut self, disk: &mut D, at: u64) -> Result<u64, LogFault>
+    pub(crate) fn size_at<D: Disk>(&mut self, disk: &mut D, at: u64) -> Result<u64, LogFault>
         requires at { at ≤ self.old.size }
         requires small { self.old.size < 2 ^ 62 }
-        requires size { D.tells → self.old.size ≡ length (D.reads disk.old self.old.file) }
+        requires size { D.tells → self.old.size ≤ length (D.reads disk.old self.old.file) }
         requires shows { D.tells → Shows self.old (D.reads disk.old self.old.file) }
         ensures within { IfOk result (λ n. (8 ≤ n) × (at + n ≤ self.old.size)) }
         ensures frame { IfOk result (λ n. D.tells
             → frame_at (take n (drop at (D.reads disk.old self.old.file)))
-            ≡ frame_at (drop at (D.reads disk.old self.old.file))) }
+            ≡ frame_at (seen self.old.size at (D.reads disk.old self.old.file))) }
         ensures damaged { IfErr result (λ e. (place : ℕ) → e ≡ LogFault.Damaged place → D.tells
-            → StopsAt (drop at (D.reads disk.old self.old.file)) at place) }
+            → StopsAt (seen self.old.size at (D.reads disk.old self.old.file)) at place) }
         ensures file { self.new.file ≡ self.old.file }
         ensures size { self.new.size ≡ self.old.size }
         ensures shows { OnOk result (D.tells → Shows self.new (D.reads disk.old self.old.file)) }
