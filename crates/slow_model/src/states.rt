@@ -3,7 +3,6 @@ ghost use Rattle.std.specs.Prelude.{◌≡◌, ◌++◌, ◌∷◌, [], slice_se
 ghost use Rattle.std.specs.FinMap as map;
 ghost use Rattle.samza_model.specs.Content.{changed, answer_of, found, found_pair, next_pair, updated, store_at, sent_at};
 
-use crate::replays::update;
 use kv_store::Table;
 use samza_model::{Act, Answer, Bin, Items, NoMemory, Plain, Record};
 use std::alloc::Global;
@@ -95,7 +94,7 @@ impl PlainState {
     {
         let number = store as usize;
         if number < self.stores.len() {
-            update(&mut self.stores[number], key, value)?;
+            self.stores[number].update(key, value)?;
         }
         Ok(())
     }
