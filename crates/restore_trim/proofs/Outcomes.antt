@@ -110,15 +110,6 @@ opening_leaves s a b few step others = record {
   others = others;
 }
 
--- an image that is as it was
-pub opening_stays : (s : Setup) (a : Image) → OpeningLeaves s a a
-opening_stays s a = record {
-  restores = λ mark contents r. r;
-  files = record { kept = λ f frames none has. has; grown = λ mark i frames im lt has. inl has; lost = λ f none. refl };
-  sends = λ j had lt log. log;
-  others = λ f other. refl;
-}
-
 -- the checkpoint file is opened
 module _ (a b : Image) (k : KeepsFrames checkpoint_file a b) where
   kept_on : (f : ℕ) (frames : List (List Record)) → HasFrames (a f) frames → HasFrames (b f) frames

@@ -35,14 +35,6 @@ same_kept x y same = record { here = λ fs has. subst (λ (b : List ℕ). HasFra
 pub log_kept : (file : ℕ) (a b : Image) → KeepsFrames file a b → KeepsLog (a file) (b file)
 log_kept file a b k = record { here = k.here; lost = k.lost }
 
-kept_then : (x y z : List ℕ) → KeepsLog x y → KeepsLog y z → KeepsLog x z
-kept_then x y z p q = record {
-  here = λ fs has. q.here fs (p.here fs has);
-  lost = λ none.
-      let same : y ≡ x = p.lost none in
-      q.lost (subst (λ (b : List ℕ). HasNoLog b) (sym same) none) ∙ same;
-}
-
 reverts_kept : (count : ℕ) (x y : List ℕ) → KeepsLog x y → Reverts count x y
 reverts_kept count x y k = record { here = λ fs has. inl (k.here fs has); lost = k.lost }
 

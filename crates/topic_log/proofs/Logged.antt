@@ -140,10 +140,6 @@ pub some_frames : (frames : List FrameView) → 1 ≤ length frames → frames �
 some_frames [] some = λ _. absurd (omega arith)
 some_frames (f ∷ frames) some = λ is. cc
 
-pub at_least_one : (frames : List FrameView) → frames ≢ [] → 1 ≤ length frames
-at_least_one [] some = absurd (some refl)
-at_least_one (f ∷ frames) some = omega arith
-
 pub no_frames : (frames : List FrameView) → length frames ≡ 0 → frames ≡ []
 no_frames [] none = refl
 no_frames (f ∷ frames) none = absurd (omega arith)
