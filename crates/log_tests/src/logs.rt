@@ -195,21 +195,23 @@ fn two_frames(alloc: Global) -> Result<Vec<Frame>, NoMemory> {
     frames_of(alloc, records.as_slice(), 2)
 }
 
-/// The bytes of a log to which these frames were appended, and how many records it was said to have before and behind that.
-fn appended(alloc: Global, frames: &[Frame]) -> Result<(Vec<u8>, [Option<u64>; 3]), Fail> {
+/// The bytes of a log to which these frames were appended, how many records it was said to have behind that, and whether it was
+/// said to have room for them.
+fn appended(alloc: Global, frames: &[Frame]) -> Result<(Vec<u8>, [u64; 2], bool), Fail> {
     let mut disk = empty_disk(alloc, None)?;
     let mut log = Log::open_log(alloc, &mut disk, 0)?;
-    let before = log.len_behind(frames);
+    let has_room = log.plan(frames).is_some();
     let told = log.append_all(&mut disk, frames)?;
     let left = Vec::from_slice(alloc, disk.bytes(0))?;
-    Ok((left, [before, Some(told), Some(log.len())]))
+    Ok((left, [told, log.len()], has_room))
 }
 
 #[test]
 fn appended_frames_stand_one_behind_the_other(rt: HostRuntime) -> Result<(), Fail> {
     let frames = two_frames(rt.alloc())?;
-    let (bytes, counts) = appended(rt.alloc(), frames.as_slice())?;
-    assert_eq!(rt; (bytes.as_slice(), counts), (TWO.as_slice(), [Some(3); 3]));
+    let (bytes, counts, has_room) = appended(rt.alloc(), frames.as_slice())?;
+    assert_eq!(rt; (bytes.as_slice(), counts), (TWO.as_slice(), [3; 2]));
+    assert!(rt; has_room);
     Ok(())
 }
 

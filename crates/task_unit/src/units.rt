@@ -279,18 +279,15 @@ impl<'j, J: Job, D: Disk, S: Shelf> OneUnit<'j, J, D, S> {
         if self.broken {
             return Err(CommitFault::Broken);
         }
-        let (plan, made) = plan_held(
+        let (plan, reach, made) = plan_held(
             self.alloc,
             &self.setup,
             &self.logs,
             &self.holdings,
             self.next,
         )?;
-        if !self.logs.has_room(&plan) {
-            return Err(CommitFault::Limit);
-        }
         self.broken = true;
-        match self.logs.write(&mut self.disk, &plan) {
+        match self.logs.write(&mut self.disk, &plan, &reach) {
             Ok(()) => {}
             Err(fault) => return Err(fault),
         }

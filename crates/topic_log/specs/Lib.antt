@@ -1,3 +1,4 @@
+pub mod Appended
 pub mod Batches
 pub mod Damage
 pub mod Extents
@@ -6,6 +7,7 @@ pub mod Growth
 pub mod Lists
 pub mod Moves
 pub mod Opened
+pub mod Planning
 pub mod Producing
 pub mod Steps
 pub mod Walks

@@ -15,9 +15,9 @@ pub struct Place {
     pub index: u64,
 }
 
-/// How far a log's open gates and frames reach.
+/// How far a log's open gates and frames reach, as it is or once more frames are appended.
 #[derive(Clone, Copy, Debug)]
-pub(crate) struct Extent {
+pub struct Extent {
     /// The byte of the gate behind the last frame.
     pub(crate) gate: u64,
     /// The number of records.

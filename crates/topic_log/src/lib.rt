@@ -13,7 +13,7 @@ mod staging;
 mod windows;
 
 pub use batches::Batches;
-pub use extents::Place;
+pub use extents::{Extent, Place};
 pub use faults::LogFault;
 pub use logs::Log;
 pub use producing::produce_one;

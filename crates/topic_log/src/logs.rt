@@ -11,6 +11,8 @@ ghost use Rattle.topic_log.specs.Damage.{IsDamagedAt};
 ghost use Rattle.topic_log.specs.Extents.{StandsBehind, IsLastOf};
 ghost use Rattle.topic_log.specs.Moves.{Rests, Same};
 ghost use Rattle.topic_log.specs.Growth.{HasRoom, LacksRoom};
+ghost use Rattle.topic_log.specs.Planning.{ReachesBy};
+ghost use Rattle.topic_log.specs.Appended.{AppendedAs};
 ghost use Rattle.topic_log.specs.Steps.{closed_frames, record_count};
 ghost use Rattle.topic_log.specs.Walks.{Shows};
 
@@ -131,20 +133,44 @@ impl Log {
         self.extent.last
     }
 
-    /// The number of records that the log has once these frames are appended, or `None` where its file would pass 2^40
-    /// bytes by them. No frames pass nothing.
-    pub fn len_behind(&self, frames: &[Frame]) -> Option<u64>
+    /// How far the log reaches once these frames are appended, or `None` where its file would pass 2^40 bytes by them. No
+    /// frames pass nothing.
+    pub fn plan(&self, frames: &[Frame]) -> Option<Extent>
         ensures limit { MatchOption result (LacksRoom (size_of self.now) frames.now)
             (λ _. HasRoom (size_of self.now) frames.now) }
-        ensures counted { IfSome result (λ n. n ≡ count_of self.now + record_count frames.now) }
-        ensures count { IfSome result (λ n. (before lists : List (List Record))
-            → HasExtent self.now before → AreFrames frames.now lists
-            → n ≡ length (joined (before ++ lists))) }
+        ensures reaches { IfSome result (λ e. ReachesBy self.now frames.now e) }
     {
-        match self.extent.behind(frames) {
-            Some(extent) => Some(extent.count),
-            None => None,
+        self.extent.behind(frames)
+    }
+
+    /// Adds the records of all these frames, which were planned, and answers the new number of records. An empty list makes
+    /// no device call.
+    ///
+    /// The one fault is `Device`: then the log is broken.
+    pub fn append_planned<D: Disk>(
+        &mut self,
+        disk: &mut D,
+        frames: &[Frame],
+        extent: Extent,
+    ) -> Result<u64, LogFault>
+        requires sound { is_broken self.old ≡ false }
+        requires reaches { ReachesBy self.old frames.now extent }
+        requires open { D.tells → (before : List (List Record))
+            × IsOpen (D.reads disk.old) (D.images disk.old) self.old before }
+        ensures appended { AppendedAs D.tells D.reads D.call_number D.images D.images_since
+            D.fault_count D.name disk.old disk.new self.old self.new frames.now result }
+        ensures device { IfErr result (λ e. (e ≡ LogFault.Device)
+            × Rose (D.fault_count disk.old) (D.fault_count disk.new)) }
+        ensures breaks { OnErr result (is_broken self.new ≡ true) }
+    {
+        if frames.is_empty() {
+            return Ok(self.extent.count);
         }
+        self.broken = true;
+        put_behind(disk, self.file, self.extent.gate, frames)?;
+        self.broken = false;
+        self.extent = extent;
+        Ok(extent.count)
     }
 
     /// Adds the records of all these frames, and answers the new number of records. An empty list makes no device call.
@@ -203,18 +229,10 @@ impl Log {
         if self.broken {
             return Err(LogFault::Broken);
         }
-        let extent = match self.extent.behind(frames) {
-            Some(extent) => extent,
-            None => return Err(LogFault::Limit),
-        };
-        if frames.is_empty() {
-            return Ok(self.extent.count);
+        match self.plan(frames) {
+            Some(extent) => self.append_planned(disk, frames, extent),
+            None => Err(LogFault::Limit),
         }
-        self.broken = true;
-        put_behind(disk, self.file, self.extent.gate, frames)?;
-        self.broken = false;
-        self.extent = extent;
-        Ok(extent.count)
     }
 
     /// Adds a frame's records, and answers the new number of records. It makes at most four device calls, and else is as

@@ -20,7 +20,7 @@ use Rattle.unit_logs.specs.Planned.{PlansCommit}
 use Rattle.restore_trim.specs.Standing.{IsOpenAt}
 use Rattle.restore_trim.proofs.Growing.{open_has as open_frames}
 use Rattle.unit_logs.specs.Standing.{MarkStands, OnDisk}
-use Rattle.unit_logs.specs.Written.{Follows, IsRoomFor, StandOpen}
+use Rattle.unit_logs.specs.Written.{Follows, StandOpen}
 use Rattle.unit_logs.proofs.Holding.{content_at}
 
 -- the records of a log that is open are those of its file
@@ -41,7 +41,6 @@ pub record StoreMade (reads : Image) (images : Image → Type 0) (file count : �
 module _ (s : Setup) (reads reads' : Image) (images images' : Image → Type 0) (logs logs' : Logs) (plan : Plan) (mark : Option Checkpoint) (next : ℕ) (made : Checkpoint) (h : Held)
     (on : OnDisk reads images s logs mark h)
     (follows : Follows reads images reads' images' logs logs' plan)
-    (room : IsRoomFor logs plan)
     (plans : PlansCommit s logs h next plan made)
     (changelogs_are : length logs.changelogs.items ≡ length s.stores)
     (outputs_are : length logs.outputs.items ≡ length s.outputs)
@@ -57,7 +56,7 @@ module _ (s : Setup) (reads reads' : Image) (images images' : Image → Type 0) 
       record {
         frames = old.frames ++ lists;
         is_open = follows.changelogs i d old.frames lists here old.is_open p.logs.are;
-        count_is = p.count_is (room.changelogs i d here) old.frames lists old.is_open.is_open.extent p.logs.are;
+        count_is = p.count_is old.frames lists old.is_open.is_open.extent p.logs.are;
         content_is = ap foldrec both ∙ replayed-append nothing_stored (joined old.frames) (joined lists) ∙ p.logs.replays (foldrec (joined old.frames)) old.agrees;
       }
 

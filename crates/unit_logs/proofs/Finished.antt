@@ -15,7 +15,7 @@ use Rattle.unit_logs.specs.Crashes.{TaskFrames, PlanRecords, StandWith, IsPlanOf
 use Rattle.unit_logs.specs.Held.{Held, IsSized, state_of, unlogged_of}
 use Rattle.unit_logs.specs.Planned.{PlansCommit}
 use Rattle.unit_logs.specs.Standing.{OnDisk}
-use Rattle.unit_logs.specs.Written.{Follows, IsRoomFor}
+use Rattle.unit_logs.specs.Written.{Follows}
 use Rattle.unit_logs.proofs.Survived.{TaskGrows, unwritten_restores, task_grows, stand_with, plan_of, all_restores, write_leaves, written_has, leaves_some}
 
 module _ {D : Type 0} (reads : D → Image) (number : D → ℕ) (images : D → Image → Type 0) (since : D → ℕ → Image → Type 0) (old : D) where
@@ -33,13 +33,12 @@ module _ {D : Type 0} (reads : D → Image) (number : D → ℕ) (images : D →
 module _ {D : Type 0} (reads : D → Image) (number : D → ℕ) (images : D → Image → Type 0) (since : D → ℕ → Image → Type 0) (old : D)
     (s : Setup) (logs : Logs) (plan : Plan) (mark : Option Checkpoint) (next : ℕ) (made : Checkpoint) (h : Held)
     (on : OnDisk (reads old) (images old) s logs mark h)
-    (room : IsRoomFor logs plan)
     (plans : PlansCommit s logs h next plan made)
     (changelogs_are : length logs.changelogs.items ≡ length s.stores)
     (outputs_are : length logs.outputs.items ≡ length s.outputs)
     (sized : IsSized s h) where
   grown : (had : TaskFrames) × (more : PlanRecords) × TaskGrows s (reads old) (images old) logs plan mark next made h had more
-  grown = task_grows s (reads old) (images old) logs plan mark next made h on room plans changelogs_are outputs_are sized
+  grown = task_grows s (reads old) (images old) logs plan mark next made h on plans changelogs_are outputs_are sized
 
   -- each image has the next checkpoint once the plan is written
   pub commits : (reads' : Image) (images' : Image → Type 0) (logs' : Logs) → Follows (reads old) (images old) reads' images' logs logs' plan → (c : Image) → images' c

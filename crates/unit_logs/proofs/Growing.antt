@@ -12,12 +12,12 @@ use Rattle.log_frame.specs.Frame.{AreFrames}
 use Rattle.topic_log.proofs.Spelling.{joined-append, log_unique}
 use Rattle.unit_logs.specs.declared.writing.Logs.{Logs}
 use Rattle.unit_logs.specs.declared.writing.Plan.{Plan}
+use Rattle.unit_logs.specs.declared.writing.Reach.{Reach}
 use Rattle.unit_logs.specs.Held.{IsSized, Held, unlogged_of, unlogged_at}
 use Rattle.unit_logs.specs.Growth.{IsNextMark, PassesLimit}
 use Rattle.unit_logs.specs.Planned.{PlansCommit, batch_at}
 use Rattle.unit_logs.specs.Standing.{OnDisk}
-use Rattle.unit_logs.specs.Room.{HaveRoom}
-use Rattle.unit_logs.specs.Written.{IsRoomFor, IsNoRoomFor}
+use Rattle.unit_logs.specs.Written.{Reaches, IsNoRoomFor}
 use Rattle.restore_trim.proofs.Growing.{lacks_passes, has_passes, cut_passes}
 use Rattle.unit_logs.proofs.Committed.{id_was, open_has}
 use Rattle.unit_logs.proofs.Holding.{unlogged_is}
@@ -35,9 +35,9 @@ module _ (s : Setup) (reads : Image) (images : Image → Type 0) (logs : Logs) (
       let p = plans.stores.each i logs.marks here in
       (p.logs.lists, subst (λ (rs : List Record). IsCut (batch_at s.stores i) rs p.logs.lists) (unlogged_is h.stores i here) p.logs.cut, p.logs.are)
 
-  -- the plan's checkpoint is the one that a commit would write, where the changelogs have room
-  is_next_mark : HaveRoom logs.changelogs.items plan.changes.items → IsNextMark s reads mark next (unlogged_of h.stores) made
-  is_next_mark room = record {
+  -- the plan's checkpoint is the one that a commit would write
+  is_next_mark : IsNextMark s reads mark next (unlogged_of h.stores) made
+  is_next_mark = record {
     named = plans.named;
     id_is = plans.id_is ∙ ap (λ n. n + 1) (on.marks.is_open.is_open.extent.count ∙ sym (id_was s on.marks.frames mark on.marks.mark_is));
     next_is = plans.next_is;
@@ -49,7 +49,7 @@ module _ (s : Setup) (reads : Image) (images : Image → Type 0) (logs : Logs) (
         let lists = p.logs.lists in
         let same : joined o.frames ≡ had = log_unique (reads (changelog_file i)) (joined o.frames) had (open_has reads images (changelog_file i) (get_or logs.changelogs.items i d) o.frames o.is_open) log in
         let logged : joined lists ≡ unlogged_at (unlogged_of h.stores) i = p.logs.cut.whole ∙ unlogged_is h.stores i here in
-        p.count_is (room i d (subst (λ n. i < n) (sym changelogs_are) lt)) o.frames lists o.is_open.is_open.extent p.logs.are
+        p.count_is o.frames lists o.is_open.is_open.extent p.logs.are
         ∙ ap (λ (l : List Record). length l) (joined-append o.frames lists ∙ ap (λ (l : List Record). l ++ joined lists) same ∙ ap (λ (l : List Record). had ++ l) logged)
         ∙ length-append had (unlogged_at (unlogged_of h.stores) i);
   }
@@ -83,7 +83,7 @@ module _ (s : Setup) (reads : Image) (images : Image → Type 0) (logs : Logs) (
       })))
       (λ by. inr (inr (record {
         made = made;
-        is_next = is_next_mark by.changelogs;
+        is_next = is_next_mark;
         last = plans.frame.0;
         spells = plans.frame.1;
         passes = lacks_passes reads images checkpoint_file logs.marks on.marks.frames on.marks.is_open (plan.frame ∷ []) ((plans.frame.0 ∷ []) ∷ []) (plans.frame.2, tt) by.lacks;
@@ -92,14 +92,14 @@ module _ (s : Setup) (reads : Image) (images : Image → Type 0) (logs : Logs) (
       none
 
   -- where there is room no file passes it
-  pub within_limit : IsRoomFor logs plan → PassesLimit s reads mark next (unlogged_of h.stores) h.unsent → ⊥
-  within_limit room passes = ⊎_elim
+  pub within_limit : (reach : Reach) → Reaches logs plan reach → PassesLimit s reads mark next (unlogged_of h.stores) h.unsent → ⊥
+  within_limit reach reaches passes = ⊎_elim
       (λ output.
       let j = output.output in
       let here : j < length logs.outputs.items = subst (λ n. j < n) (sym outputs_are) output.within in
       let o = on.outputs j logs.marks here in
       let p = plans.sends.each j (subst (λ n. j < n) (sym sized.outputs) output.within) in
-      cut_passes reads images (output_file j) (get_or logs.outputs.items j logs.marks) o.0 o.1 frame_batch (sent_at h.unsent j) (get_or plan.sends.items j []) p.lists p.cut p.are (room.outputs j logs.marks here) output.passes)
+      cut_passes reads images (output_file j) (get_or logs.outputs.items j logs.marks) o.0 o.1 frame_batch (sent_at h.unsent j) (get_or plan.sends.items j []) p.lists p.cut p.are (reaches.outputs.each j logs.marks reach.mark here).room output.passes)
       (λ others. ⊎_elim
       (λ changes.
       let i = changes.store in
@@ -107,10 +107,10 @@ module _ (s : Setup) (reads : Image) (images : Image → Type 0) (logs : Logs) (
       let o = on.stores i logs.marks lt in
       let p = changes_cut i lt in
       cut_passes reads images (changelog_file i) (get_or logs.changelogs.items i logs.marks) o.frames o.is_open (batch_at s.stores i) (unlogged_at (unlogged_of h.stores) i) (get_or plan.changes.items i []) p.0
-      p.1 p.2 (room.changelogs i logs.marks (subst (λ n. i < n) (sym changelogs_are) lt)) changes.passes)
+      p.1 p.2 (reaches.changelogs.each i logs.marks reach.mark (subst (λ n. i < n) (sym changelogs_are) lt)).room changes.passes)
       (λ by.
       let long = marks_long s by.made made by.last plans.frame.0 by.is_next.named plans.named by.spells plans.frame.1 in
-      has_passes reads images checkpoint_file logs.marks on.marks.frames on.marks.is_open (plan.frame ∷ []) ((plans.frame.0 ∷ []) ∷ []) (plans.frame.2, tt) room.marks
+      has_passes reads images checkpoint_file logs.marks on.marks.frames on.marks.is_open (plan.frame ∷ []) ((plans.frame.0 ∷ []) ∷ []) (plans.frame.2, tt) reaches.marks.room
       (record { had = by.passes.had; has = by.passes.has; some = λ none. absurd (omega (arith, ap length none)); passes = omega (arith, by.passes.passes, long) }))
       others)
       passes

@@ -1,5 +1,6 @@
 mod Appended
 pub mod Committed
+mod Extents
 pub mod Finished
 pub mod Followed
 pub mod Growing

@@ -1,5 +1,5 @@
 -- What a commit is going to append, made for the first so many stores or outputs.
-use Rattle.std.proofs.Common.{ℕ, ◌≡◌, ◌<◌, ◌≤◌, ◌+◌, List, [], ◌∷◌, ◌++◌, length, get_or, take, sym, subst, arith, ⊎_elim}
+use Rattle.std.proofs.Common.{ℕ, ◌≡◌, ◌<◌, ◌≤◌, ◌+◌, List, [], ◌∷◌, ◌++◌, length, get_or, take, sym, ap, subst, arith, ⊎_elim, length-append}
 use Rattle.std.proofs.lemmas.Bool.{cases_lt}
 use Rattle.std.proofs.lemmas.List.{get_or_append_left, get_or_push}
 use Rattle.samza_model.specs.declared.messages.Record.{Record}
@@ -7,11 +7,15 @@ use Rattle.samza_model.specs.declared.checkpoints.StoreMark.{StoreMark}
 use Rattle.samza_model.specs.declared.setups.StoreSetup.{StoreSetup}
 use Rattle.samza_model.specs.Content.{sent_at}
 use Rattle.kv_store.specs.Tracked.{Tracked}
-use Rattle.log_frame.specs.Frame.{FrameView}
+use Rattle.samza_model.specs.Logs.{joined}
+use Rattle.log_frame.specs.Frame.{FrameView, AreFrames}
 use Rattle.topic_log.specs.declared.logs.Log.{Log}
+use Rattle.topic_log.specs.Opened.{count_of}
+use Rattle.topic_log.proofs.Logged.{are_counted}
+use Rattle.topic_log.proofs.Spelling.{joined-append}
 use Rattle.unit_logs.specs.Held.{tracked_at}
 use Rattle.samza_model.specs.Restored.{mark_names, setup_names}
-use Rattle.unit_logs.specs.Planned.{batch_at, LogsSends, PlansStore}
+use Rattle.unit_logs.specs.Planned.{batch_at, CountsBehind, LogsSends, PlansStore}
 
 -- the frames of the first n outputs are made
 pub record SendsSoFar (unsent : List (List Record)) (n : ℕ) (frames : List (List FrameView)) : Type 0 where
@@ -44,3 +48,18 @@ each_more setups changelogs stores n frames marks more mark h here i d lt =
     (subst (λ (fs : List FrameView). plans n fs (get_or (marks ++ mark ∷ []) n (record { name = []; count = 0 }))) (sym (get_or_push frames more [] n h.frames_are))
     (subst (λ (m : StoreMark). plans n more m) (sym (get_or_push marks mark (record { name = []; count = 0 }) n h.marks_are)) (here d))))
     (cases_lt i n)
+
+-- the records of the frames are counted behind those of the log
+pub counts_behind : (log : Log) (frames : List FrameView) (cut : List (List Record)) (records : List Record) (count : ℕ) → AreFrames frames cut → joined cut ≡ records
+    → count ≡ count_of log + length records → CountsBehind log frames count
+counts_behind log frames cut records count are whole is before lists extent these =
+    omega (
+      arith,
+      is,
+      extent.count,
+      are_counted frames cut are,
+      are_counted frames lists these,
+      ap (λ (l : List Record). length l) whole,
+      ap (λ (l : List Record). length l) (joined-append before lists),
+      length-append (joined before) (joined lists),
+    )

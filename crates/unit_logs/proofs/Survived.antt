@@ -25,7 +25,7 @@ use Rattle.unit_logs.specs.Planned.{PlansCommit, batch_at}
 use Rattle.restore_trim.specs.Standing.{IsOpenAt}
 use Rattle.unit_logs.specs.Standing.{OnDisk}
 use Rattle.unit_logs.specs.Commits.{IsFollowed, IsCommitted, IsUncommitted, LeavesMade, CommitLeaves}
-use Rattle.unit_logs.specs.Written.{Follows, IsRoomFor}
+use Rattle.unit_logs.specs.Written.{Follows}
 use Rattle.restore_trim.proofs.Growing.{open_has as open_frames}
 use Rattle.restore_trim.proofs.Outcomes.{log_of}
 use Rattle.restore_trim.proofs.Tails.{has_frames}
@@ -125,7 +125,6 @@ module _ (s : Setup) (reads : Image) (images : Image → Type 0) (logs : Logs) (
     pub outputs : (j : ℕ) → j < length s.outputs → OutputGrows j (had.outputs j) (more.sends j)
 
   module _ (on : OnDisk reads images s logs mark h)
-      (room : IsRoomFor logs plan)
       (plans : PlansCommit s logs h next plan made)
       (changelogs_are : length logs.changelogs.items ≡ length s.stores)
       (outputs_are : length logs.outputs.items ≡ length s.outputs)
@@ -141,7 +140,7 @@ module _ (s : Setup) (reads : Image) (images : Image → Type 0) (logs : Logs) (
           record {
             is_open = λ e. subst (λ (l : Log). IsOpenAt reads images (changelog_file i) l old.frames) (get_or_default logs.changelogs.items i d e here) old.is_open;
             are = p.logs.are;
-            count_is = p.count_is (room.changelogs i d here) old.frames lists old.is_open.is_open.extent p.logs.are;
+            count_is = p.count_is old.frames lists old.is_open.is_open.extent p.logs.are;
             content_is = ap foldrec (joined-append old.frames lists) ∙ replayed-append nothing_stored (joined old.frames) (joined lists) ∙ p.logs.replays (foldrec (joined old.frames)) old.agrees;
             cut = subst (λ (rs : List Record). IsCut (batch_at s.stores i) rs lists) (unlogged_is h.stores i (subst (λ n. i < n) (sym sized.stores) lt)) p.logs.cut;
           },

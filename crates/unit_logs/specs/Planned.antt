@@ -14,8 +14,7 @@ use Rattle.kv_store.specs.Tracked.{Tracked, AgreesOnClean, unlogged_records}
 use Rattle.log_frame.specs.Cuts.{IsCut}
 use Rattle.log_frame.specs.Frame.{FrameView, IsFrame, AreFrames}
 use Rattle.topic_log.specs.declared.logs.Log.{Log}
-use Rattle.topic_log.specs.Growth.{HasRoom}
-use Rattle.topic_log.specs.Opened.{count_of, size_of, HasExtent}
+use Rattle.topic_log.specs.Opened.{count_of, HasExtent}
 use Rattle.unit_logs.specs.declared.writing.Logs.{Logs}
 use Rattle.unit_logs.specs.declared.writing.Plan.{Plan}
 use Rattle.unit_logs.specs.Held.{Held, tracked_at}
@@ -31,9 +30,9 @@ pub record LogsChanges (batch : ℕ) (t : Tracked) (frames : List FrameView) : T
   pub are : AreFrames frames lists
   pub replays : (logged : Content) → AgreesOnClean t logged → replayed logged (joined lists) ≡ t.content
 
--- the count is the number of the log's records once these frames are appended, where there is room
+-- the count is the number of the log's records once these frames are appended
 abbrev pub CountsBehind : Log → List FrameView → ℕ → Type 0
-CountsBehind log frames count = HasRoom (size_of log) frames → (before lists : List (List Record)) → HasExtent log before → AreFrames frames lists → count ≡ length (joined (before ++ lists))
+CountsBehind log frames count = (before lists : List (List Record)) → HasExtent log before → AreFrames frames lists → count ≡ length (joined (before ++ lists))
 
 -- the frames of a store, and how many records of its changelog the next checkpoint counts
 pub record PlansStore (batch : ℕ) (t : Tracked) (log : Log) (frames : List FrameView) (count : ℕ) : Type 0 where

@@ -1,16 +1,22 @@
 -- What a commit writes to a task's logs.
-use Rattle.std.specs.Prelude.{◌≡◌, ◌≤◌, ◌⊎◌, false, List, [], ◌∷◌, ◌++◌, length}
+use Rattle.std.specs.Prelude.{ℕ, ◌≡◌, ◌≤◌, ◌⊎◌, false, List, [], ◌∷◌, ◌++◌, length}
 use Rattle.samza_model.specs.declared.messages.Record.{Record}
+use Rattle.samza_model.specs.declared.checkpoints.Checkpoint.{Checkpoint}
+use Rattle.samza_model.specs.declared.setups.Setup.{Setup}
 use Rattle.samza_model.specs.Files.{Image, checkpoint_file, changelog_file, output_file}
 use Rattle.log_frame.specs.Frame.{FrameView, IsFrame}
 use Rattle.topic_log.specs.declared.logs.Log.{Log}
-use Rattle.topic_log.specs.Growth.{HasRoom, LacksRoom}
+use Rattle.topic_log.specs.Growth.{LacksRoom}
 use Rattle.topic_log.specs.Opened.{is_broken, size_of}
+use Rattle.topic_log.specs.Planning.{ReachesBy}
 use Rattle.unit_logs.specs.Appending.{AreOpen, AreAppended}
-use Rattle.unit_logs.specs.Room.{HaveRoom, OneLacksRoom}
+use Rattle.unit_logs.specs.Held.{Held}
+use Rattle.unit_logs.specs.Planned.{PlansCommit}
+use Rattle.unit_logs.specs.Room.{HaveRoom, OneLacksRoom, EachReaches}
 use Rattle.restore_trim.specs.Standing.{IsOpenAt, AllSound}
 use Rattle.unit_logs.specs.declared.writing.Logs.{Logs}
 use Rattle.unit_logs.specs.declared.writing.Plan.{Plan}
+use Rattle.unit_logs.specs.declared.writing.Reach.{Reach}
 
 -- no call on a log answered Device
 pub record AreSound (logs : Logs) : Type 0 where
@@ -30,12 +36,6 @@ pub record IsPlanFor (logs : Logs) (plan : Plan) : Type 0 where
   pub sends : length plan.sends.items ≡ length logs.outputs.items
   pub few : length logs.changelogs.items ≤ 15
 
--- no file passes 2^40 bytes by the plan
-pub record IsRoomFor (logs : Logs) (plan : Plan) : Type 0 where
-  pub marks : HasRoom (size_of logs.marks) (plan.frame ∷ [])
-  pub changelogs : HaveRoom logs.changelogs.items plan.changes.items
-  pub outputs : HaveRoom logs.outputs.items plan.sends.items
-
 -- the changelogs have room, but the checkpoint file passes 2^40 bytes by the plan
 pub record MarkLacksRoom (logs : Logs) (plan : Plan) : Type 0 where
   pub changelogs : HaveRoom logs.changelogs.items plan.changes.items
@@ -44,6 +44,19 @@ pub record MarkLacksRoom (logs : Logs) (plan : Plan) : Type 0 where
 -- one of the files passes 2^40 bytes by the plan; the checkpoint file is looked at last
 abbrev pub IsNoRoomFor : Logs → Plan → Type 0
 IsNoRoomFor logs plan = OneLacksRoom logs.outputs.items plan.sends.items ⊎ (OneLacksRoom logs.changelogs.items plan.changes.items ⊎ MarkLacksRoom logs plan)
+
+-- no file passes 2^40 bytes by the plan, and the logs reach so far once it is appended
+pub record Reaches (logs : Logs) (plan : Plan) (reach : Reach) : Type 0 where
+  pub marks : ReachesBy logs.marks (plan.frame ∷ []) reach.mark
+  pub changelogs : EachReaches logs.changelogs.items plan.changes.items reach.changes.items
+  pub outputs : EachReaches logs.outputs.items plan.sends.items reach.sends.items
+
+-- one of the files passes 2^40 bytes by what a commit appends of what is held
+pub record LacksRoomFor (s : Setup) (logs : Logs) (h : Held) (next : ℕ) : Type 0 where
+  pub draft : Plan
+  pub made : Checkpoint
+  pub plans : PlansCommit s logs h next draft made
+  pub none : IsNoRoomFor logs draft
 
 -- the checkpoint file's log has one frame more
 abbrev pub MarksAppended : Image → (Image → Type 0) → Image → (Image → Type 0) → Log → Log → FrameView → Type 0

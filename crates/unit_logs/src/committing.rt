@@ -1,18 +1,21 @@
 // A commit, planned in memory.
-ghost use Rattle.std.specs.Prelude.{◌≡◌, length, IfOk};
+ghost use Rattle.std.specs.Prelude.{◌≡◌, ◌⊎◌, length, IfOk, IfErr};
 ghost use Rattle.unit_logs.specs.Planned.{PlansCommit};
 ghost use Rattle.unit_logs.specs.Standing.{IsSetUp};
+ghost use Rattle.unit_logs.specs.Written.{LacksRoomFor, Reaches};
 
+use crate::CommitFault;
 use crate::planning::{make_mark, mark_frame, plan_sends, plan_stores};
-use crate::writing::{Logs, Plan};
+use crate::reaching::reach_behind;
+use crate::writing::{Logs, Plan, Reach};
 use kv_store::TrackedTable;
 use output_log::Outputs;
 use samza_model::{Checkpoint, NoMemory, Setup};
 use std::alloc::Global;
 
 /// What a commit appends, and the checkpoint that it makes. The checkpoint counts each changelog's records behind the
-/// commit, or 0 where there is no room for them.
-pub fn plan_commit(
+/// commit.
+fn plan_frames(
     alloc: Global,
     setup: &Setup,
     logs: &Logs,
@@ -44,4 +47,46 @@ pub fn plan_commit(
         },
         made,
     ))
+}
+
+/// What a commit appends, how far the logs reach behind it, and the checkpoint that it makes.
+///
+/// `NoMemory` comes before `Limit`, which comes where one of the files would pass 2^40 bytes.
+pub fn plan_commit(
+    alloc: Global,
+    setup: &Setup,
+    logs: &Logs,
+    stores: &[TrackedTable],
+    outputs: &Outputs,
+    next: u64,
+) -> Result<(Plan, Reach, Checkpoint), CommitFault>
+    requires set_up { IsSetUp setup.now }
+    requires sized { length stores.now ≡ length setup.now.stores }
+    requires changelogs { length logs.now.changelogs.items ≡ length setup.now.stores }
+    requires outputs { length logs.now.outputs.items ≡ length outputs.now.unsent }
+    ensures planned { IfOk result
+        (λ r. PlansCommit setup.now logs.now
+        (record {
+          stores = stores.now;
+          unsent = outputs.now.unsent;
+          cleared
+              = outputs.now.cleared;
+        }) next r.0 r.2) }
+    ensures reaches { IfOk result (λ r. Reaches logs.now r.0 r.1) }
+    ensures limit { IfErr result
+        (λ e. e ≡ CommitFault.Limit
+        → LacksRoomFor setup.now logs.now
+        (record {
+          stores = stores.now;
+          unsent = outputs.now.unsent;
+          cleared
+              = outputs.now.cleared;
+        }) next) }
+    ensures fault { IfErr result (λ e. (e ≡ CommitFault.NoMemory) ⊎ (e ≡ CommitFault.Limit)) }
+{
+    let (plan, made) = plan_frames(alloc, setup, logs, stores, outputs, next)?;
+    match reach_behind(alloc, logs, &plan) {
+        Ok(reach) => Ok((plan, reach, made)),
+        Err(fault) => Err(fault),
+    }
 }

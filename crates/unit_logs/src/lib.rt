@@ -1,4 +1,4 @@
-//! A task's logs: what a commit appends to them, planned, tested for room, and written.
+//! A task's logs: what a commit appends to them, planned, with how far they will reach, and written.
 #![tactic(auto)]
 
 mod appending;
@@ -6,9 +6,9 @@ mod committing;
 mod faults;
 mod lists;
 mod planning;
-mod room;
+mod reaching;
 mod writing;
 
 pub use committing::plan_commit;
 pub use faults::CommitFault;
-pub use writing::{Logs, Plan};
+pub use writing::{Logs, Plan, Reach};

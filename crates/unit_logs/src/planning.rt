@@ -9,7 +9,6 @@ ghost use Rattle.log_frame.specs.Frame.{IsFrame};
 ghost use Rattle.unit_logs.specs.Planned.{PlansStore, PlansStores, PlansSends};
 
 use crate::lists::put;
-use crate::room::count_behind;
 use checkpoint_log::encode_checkpoint;
 use kv_store::TrackedTable;
 use log_frame::{Frame, encode, frames_of};
@@ -34,7 +33,7 @@ fn plan_store(
 {
     let records = store.unlogged(alloc)?;
     let frames = frames_of(alloc, records.as_slice(), setup.batch)?;
-    let count = count_behind(changelog, frames.as_slice());
+    let count = changelog.len() + records.len() as u64;
     let name = setup.name.copy(alloc)?;
     Ok((Items::from_vec(frames), StoreMark { name, count }))
 }

@@ -1,25 +1,24 @@
 // A task's logs, and what a commit writes to them.
-ghost use Rattle.std.specs.Prelude.{◌≡◌, ◌≢◌, ◌≤◌, ◌+◌, ◌∷◌, [], ℕ, true, false, List, length, IfErr, OnOk};
+ghost use Rattle.std.specs.Prelude.{◌≡◌, ◌≢◌, ◌≤◌, ◌+◌, ◌∷◌, [], ℕ, false, List, length, IfErr, OnOk};
 ghost use Rattle.samza_model.specs.Counters.{Rose};
 ghost use Rattle.disk_model.specs.Images.{LeavesOnly, SameElsewhere};
 ghost use Rattle.log_frame.specs.Frame.{IsFrame};
 ghost use Rattle.samza_model.specs.declared.messages.Record.{Record};
 ghost use Rattle.samza_model.specs.Files.{checkpoint_file};
 ghost use Rattle.topic_log.specs.declared.logs.Log.{Log as LogValue};
-ghost use Rattle.topic_log.specs.Opened.{file_of, count_of, size_of, is_broken, IsOpen, Appends};
+ghost use Rattle.topic_log.specs.Opened.{file_of, count_of, is_broken, IsOpen, Appends};
 ghost use Rattle.unit_logs.specs.Crashes.{TaskFrames, PlanRecords, StandWith, IsPlanOf, WriteLeaves};
 ghost use Rattle.restore_trim.specs.Standing.{IsOpenAt, OthersStay};
-ghost use Rattle.unit_logs.specs.Written.{AreSound, StandOpen, IsPlanFor, IsRoomFor, IsNoRoomFor, MarksAppended, Follows};
-ghost use Rattle.topic_log.specs.Growth.{HasRoom};
+ghost use Rattle.unit_logs.specs.Written.{AreSound, StandOpen, IsPlanFor, Reaches, MarksAppended, Follows};
+ghost use Rattle.topic_log.specs.Planning.{ReachesBy};
 
 use crate::CommitFault;
 use crate::appending::append_each;
-use crate::room::{has_room, have_room};
 use disk_model::Disk;
 use log_frame::Frame;
 use samza_model::Items;
 use std::slice;
-use topic_log::{Log, LogFault};
+use topic_log::{Extent, Log};
 
 /// A task's logs, open on its disk.
 #[derive(Drop)]
@@ -39,9 +38,22 @@ pub struct Plan {
     pub frame: Frame,
 }
 
-fn append_mark<D: Disk>(disk: &mut D, marks: &mut Log, frame: &Frame) -> Result<(), CommitFault>
+/// How far each log reaches once a plan is appended.
+#[derive(Drop)]
+pub struct Reach {
+    pub changes: Vec<Extent>,
+    pub sends: Vec<Extent>,
+    pub mark: Extent,
+}
+
+fn append_mark<D: Disk>(
+    disk: &mut D,
+    marks: &mut Log,
+    frame: &Frame,
+    extent: Extent,
+) -> Result<(), CommitFault>
     requires sound { is_broken marks.old ≡ false }
-    requires room { HasRoom (size_of marks.old) (frame.now ∷ []) }
+    requires reaches { ReachesBy marks.old (frame.now ∷ []) extent }
     requires open { D.tells → (frames : List (List Record))
         × IsOpenAt (D.reads disk.old) (D.images disk.old) checkpoint_file marks.old frames }
     ensures appended { OnOk result (D.tells
@@ -64,35 +76,23 @@ fn append_mark<D: Disk>(disk: &mut D, marks: &mut Log, frame: &Frame) -> Result<
     ensures later { D.fault_count disk.old ≤ D.fault_count disk.new }
     ensures name { D.name disk.new ≡ D.name disk.old }
 {
-    match marks.append(disk, frame) {
+    match marks.append_planned(disk, slice::from_ref(frame), extent) {
         Ok(_) => Ok(()),
-        Err(LogFault::Device) => Err(CommitFault::Device),
-        Err(_) => unreachable!(),
+        Err(_) => Err(CommitFault::Device),
     }
 }
 
 impl Logs {
-    /// Whether no file passes 2^40 bytes by the plan.
-    pub fn has_room(&self, plan: &Plan) -> bool
-        requires changes { length plan.now.changes.items ≡ length self.now.changelogs.items }
-        requires sends { length plan.now.sends.items ≡ length self.now.outputs.items }
-        ensures room { result ≡ true → IsRoomFor self.now plan.now }
-        ensures none { result ≡ false → IsNoRoomFor self.now plan.now }
-    {
-        if !have_room(self.outputs.as_slice(), plan.sends.as_slice()) {
-            return false;
-        }
-        if !have_room(self.changelogs.as_slice(), plan.changes.as_slice()) {
-            return false;
-        }
-        has_room(&self.marks, slice::from_ref(&plan.frame))
-    }
-
     /// Appends what the outputs were sent, then the changes of the stores, then the checkpoint.
-    pub fn write<D: Disk>(&mut self, disk: &mut D, plan: &Plan) -> Result<(), CommitFault>
+    pub fn write<D: Disk>(
+        &mut self,
+        disk: &mut D,
+        plan: &Plan,
+        reach: &Reach,
+    ) -> Result<(), CommitFault>
         requires planned { IsPlanFor self.old plan.now }
         requires sound { AreSound self.old }
-        requires room { IsRoomFor self.old plan.now }
+        requires reaches { Reaches self.old plan.now reach.now }
         requires open { D.tells → StandOpen (D.reads disk.old) (D.images disk.old) self.old }
         ensures follows { OnOk result (D.tells
             → Follows (D.reads disk.old) (D.images disk.old) (D.reads disk.new) (D.images disk.new)
@@ -117,15 +117,15 @@ impl Logs {
         ensures later { D.fault_count disk.old ≤ D.fault_count disk.new }
         ensures name { D.name disk.new ≡ D.name disk.old }
     {
-        match append_each(disk, &mut self.outputs, plan.sends.as_slice()) {
+        match append_each(disk, &mut self.outputs, &plan.sends, &reach.sends) {
             Ok(()) => {}
             Err(fault) => return Err(fault),
         }
-        match append_each(disk, &mut self.changelogs, plan.changes.as_slice()) {
+        match append_each(disk, &mut self.changelogs, &plan.changes, &reach.changes) {
             Ok(()) => {}
             Err(fault) => return Err(fault),
         }
-        match append_mark(disk, &mut self.marks, &plan.frame) {
+        match append_mark(disk, &mut self.marks, &plan.frame, reach.mark) {
             Ok(()) => {}
             Err(fault) => return Err(fault),
         }

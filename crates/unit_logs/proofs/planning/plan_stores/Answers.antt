@@ -1,5 +1,5 @@
-use Rattle.std.proofs.Common.{◌≡◌, ◌<◌, ◌+◌, ◌++◌, ◌∷◌, [], List, ℕ, length, get_or, take, ap, subst, sym, ◌∙◌, arith}
-use Rattle.std.proofs.lemmas.List.{get_or_read, length_push, map-append, take_more}
+use Rattle.std.proofs.Common.{◌≡◌, ◌<◌, ◌≤◌, ◌+◌, ◌++◌, ◌∷◌, [], List, ℕ, length, get_or, take, ap, subst, sym, ◌∙◌, arith}
+use Rattle.std.proofs.lemmas.List.{get_or_read, length_push, map-append, take_all, take_more}
 use Rattle.samza_model.specs.declared.setups.StoreSetup.{StoreSetup}
 use Rattle.samza_model.specs.declared.checkpoints.StoreMark.{StoreMark}
 use Rattle.samza_model.specs.Content.{nothing_stored}
@@ -42,4 +42,13 @@ loop-i-preserved c =
           ∙ sym (ap setup_names (take_more setups i none (omega arith)));
       each = λ k d lt. subst (λ (fs : List (List FrameView)). PlansStore (get_or setups k none).batch (tracked_at c.args.stores.now k) (get_or c.args.changelogs.now k d) (get_or fs k []) (get_or c.put-in-loop-i.new.list.items k (record { name = []; count = 0 })).count) (sym frames)
           (subst (λ (ms : List StoreMark). PlansStore (get_or setups k none).batch (tracked_at c.args.stores.now k) (get_or c.args.changelogs.now k d) (get_or (c.loop-i.frames.items ++ c.in_ok-more.more ∷ []) k []) (get_or ms k (record { name = []; count = 0 })).count) (sym marks) (each k d lt));
+    }
+
+pub returns : goal.returns
+returns c =
+    let all : length c.args.setup.now.stores ≤ c.loop-i.i = omega arith in
+    record {
+      frames_are = omega (arith, c.loop-i.invariant.frames_are);
+      names_are = c.loop-i.invariant.names_are ∙ ap setup_names (take_all c.loop-i.i c.args.setup.now.stores all);
+      each = λ i d lt. c.loop-i.invariant.each i d (omega (arith, lt));
     }

@@ -1,4 +1,5 @@
 use Rattle.std.proofs.Common.{ℕ, Bool, true, false, ◌≡◌, ◌≤◌, ◌<◌, ◌+◌, ◌∙◌, ap, length, Option, Some, IfSome, refl, sym, subst, arith}
+use Rattle.std.proofs.lemmas.Result.{err_from_is_err_and}
 use Rattle.samza_model.specs.Content.{sent_at}
 use Rattle.samza_model.specs.Counters.{Rose}
 use Rattle.unit_logs.specs.declared.faults.CommitFault.TheVariants.{Broken, Busy, Device, Failed, Limit, Windowing}
@@ -32,7 +33,7 @@ device_alone = ((λ e. cc), (λ e. cc), (λ e. cc), (λ e. cc), λ n e. cc)
 pub write-requires-clause-planned : goal.write-requires-clause-planned
 write-requires-clause-planned g c κs within =
     let inv = c.self.invariant in
-    let p = c.in_ok-plan.ensures in
+    let p = c.in_ok-plan.ensures.planned in
     record {
       changes = p.stores.frames_are ∙ inv.sized.stores ∙ sym inv.changelogs_are;
       sends = p.sends.frames_are ∙ inv.sized.outputs ∙ sym inv.outputs_are;
@@ -52,11 +53,10 @@ returns-clause-committed g c = λ told.
     let disk = g.D.Disk in
     let plan = c.in_ok-plan.plan in
     let made = c.in_ok-plan.made in
-    let p = c.in_ok-plan.ensures in
-    let room = c.has_room.ensures.room c.if-not-has_room.false in
+    let p = c.in_ok-plan.ensures.planned in
     let h = held u.holdings in
     let law = (g.met.D.Disk g.world.𝓛 g.world.𝓜 g.world.𝓡 ((λ s x. x), (λ x. x), (λ x. x), λ x. x)) in
-    let now = commits disk.reads disk.call_number disk.images disk.images_since u.disk u.setup u.logs plan u.mark u.next made h (inv.stands c.if-self.false told) room p inv.changelogs_are inv.outputs_are inv.sized (disk.reads c.write.new.disk) (disk.images c.write.new.disk) c.write.new.self (c.in-Ok.ensures.follows told) (disk.reads c.write.new.disk) (law.read_is_image c.write.new.disk told) in
+    let now = commits disk.reads disk.call_number disk.images disk.images_since u.disk u.setup u.logs plan u.mark u.next made h (inv.stands c.if-self.false told) p inv.changelogs_are inv.outputs_are inv.sized (disk.reads c.write.new.disk) (disk.images c.write.new.disk) c.write.new.self (c.in-Ok.ensures.follows told) (disk.reads c.write.new.disk) (law.read_is_image c.write.new.disk told) in
     (made, refl, subst (λ v. IsCommitOf v (disk.reads v.disk) (disk.reads c.write.new.disk) made) c.self.view_is now)
 
 pub returns-clause-durable : goal.returns-clause-durable
@@ -66,10 +66,9 @@ returns-clause-durable g c = λ told other is f now.
     let disk = g.D.Disk in
     let plan = c.in_ok-plan.plan in
     let made = c.in_ok-plan.made in
-    let p = c.in_ok-plan.ensures in
-    let room = c.has_room.ensures.room c.if-not-has_room.false in
+    let p = c.in_ok-plan.ensures.planned in
     let h = held u.holdings in
-    let here = commits disk.reads disk.call_number disk.images disk.images_since u.disk u.setup u.logs plan u.mark u.next made h (inv.stands c.if-self.false told) room p inv.changelogs_are inv.outputs_are inv.sized (disk.reads c.write.new.disk) (disk.images c.write.new.disk) c.write.new.self (c.in-Ok.ensures.follows told) f now in
+    let here = commits disk.reads disk.call_number disk.images disk.images_since u.disk u.setup u.logs plan u.mark u.next made h (inv.stands c.if-self.false told) p inv.changelogs_are inv.outputs_are inv.sized (disk.reads c.write.new.disk) (disk.images c.write.new.disk) c.write.new.self (c.in-Ok.ensures.follows told) f now in
     let told_of = subst (λ (m : Option Checkpoint). IfSome m (λ k. IsCommitted u.setup (disk.reads u.disk) f u.mark u.next (state_of h) (unlogged_of h.stores) k)) is here in
     subst (λ v. IsCommitOf v (disk.reads v.disk) f other) c.self.view_is told_of
 
@@ -80,10 +79,9 @@ returns-clause-made_any_moment g c = λ told other is contents old.
     let disk = g.D.Disk in
     let plan = c.in_ok-plan.plan in
     let made = c.in_ok-plan.made in
-    let p = c.in_ok-plan.ensures in
-    let room = c.has_room.ensures.room c.if-not-has_room.false in
+    let p = c.in_ok-plan.ensures.planned in
     let h = held u.holdings in
-    let here = left_made disk.reads disk.call_number disk.images disk.images_since u.disk u.setup u.logs plan u.mark u.next made h (inv.stands c.if-self.false told) room p inv.changelogs_are inv.outputs_are inv.sized c.write.new.disk (c.write.ensures.any_moment told) contents (subst (λ v. Restores v.setup (disk.reads v.disk) v.mark contents) (sym c.self.view_is) old) in
+    let here = left_made disk.reads disk.call_number disk.images disk.images_since u.disk u.setup u.logs plan u.mark u.next made h (inv.stands c.if-self.false told) p inv.changelogs_are inv.outputs_are inv.sized c.write.new.disk (c.write.ensures.any_moment told) contents (subst (λ v. Restores v.setup (disk.reads v.disk) v.mark contents) (sym c.self.view_is) old) in
     let told_of = subst (λ (m : Option Checkpoint). IfSome m (λ k. LeavesOnly disk.call_number disk.images disk.images_since u.disk c.write.new.disk (λ a f. LeavesMade u.setup (disk.reads u.disk) a f u.mark contents u.next (state_of h) (unlogged_of h.stores) k))) is here in
     subst (λ v. LeavesOnly disk.call_number disk.images disk.images_since v.disk c.write.new.disk (MadeLeaves v (disk.reads v.disk) contents other)) c.self.view_is told_of
 
@@ -94,11 +92,10 @@ returns-clause-any_moment g c = λ told sound contents old.
     let disk = g.D.Disk in
     let plan = c.in_ok-plan.plan in
     let made = c.in_ok-plan.made in
-    let p = c.in_ok-plan.ensures in
-    let room = c.has_room.ensures.room c.if-not-has_room.false in
+    let p = c.in_ok-plan.ensures.planned in
     let h = held u.holdings in
     subst (λ v. LeavesOnly disk.call_number disk.images disk.images_since v.disk c.write.new.disk (CrashLeaves v (disk.reads v.disk) contents)) c.self.view_is
-    (left_some disk.reads disk.call_number disk.images disk.images_since u.disk u.setup u.logs plan u.mark u.next made h (inv.stands c.if-self.false told) room p inv.changelogs_are inv.outputs_are inv.sized c.write.new.disk (c.write.ensures.any_moment told) contents (subst (λ v. Restores v.setup (disk.reads v.disk) v.mark contents) (sym c.self.view_is) old))
+    (left_some disk.reads disk.call_number disk.images disk.images_since u.disk u.setup u.logs plan u.mark u.next made h (inv.stands c.if-self.false told) p inv.changelogs_are inv.outputs_are inv.sized c.write.new.disk (c.write.ensures.any_moment told) contents (subst (λ v. Restores v.setup (disk.reads v.disk) v.mark contents) (sym c.self.view_is) old))
 
 pub returns-clause-others_any_moment : goal.returns-clause-others_any_moment
 returns-clause-others_any_moment g c = λ told.
@@ -107,11 +104,10 @@ returns-clause-others_any_moment g c = λ told.
     let disk = g.D.Disk in
     let plan = c.in_ok-plan.plan in
     let made = c.in_ok-plan.made in
-    let p = c.in_ok-plan.ensures in
-    let room = c.has_room.ensures.room c.if-not-has_room.false in
+    let p = c.in_ok-plan.ensures.planned in
     let h = held u.holdings in
     subst (λ v. LeavesOnly disk.call_number disk.images disk.images_since v.disk c.write.new.disk (OthersStay (length v.setup.stores) (length v.setup.outputs))) c.self.view_is
-    (left_others disk.reads disk.call_number disk.images disk.images_since u.disk u.setup u.logs plan u.mark u.next made h (inv.stands c.if-self.false told) room p inv.changelogs_are inv.outputs_are inv.sized c.write.new.disk (c.write.ensures.any_moment told))
+    (left_others disk.reads disk.call_number disk.images disk.images_since u.disk u.setup u.logs plan u.mark u.next made h (inv.stands c.if-self.false told) p inv.changelogs_are inv.outputs_are inv.sized c.write.new.disk (c.write.ensures.any_moment told))
 
 pub returns-in-Err-clause-any_moment : goal.returns-in-Err-clause-any_moment
 returns-in-Err-clause-any_moment g c = λ told sound contents old.
@@ -120,11 +116,10 @@ returns-in-Err-clause-any_moment g c = λ told sound contents old.
     let disk = g.D.Disk in
     let plan = c.in_ok-plan.plan in
     let made = c.in_ok-plan.made in
-    let p = c.in_ok-plan.ensures in
-    let room = c.has_room.ensures.room c.if-not-has_room.false in
+    let p = c.in_ok-plan.ensures.planned in
     let h = held u.holdings in
     subst (λ v. LeavesOnly disk.call_number disk.images disk.images_since v.disk c.write.new.disk (CrashLeaves v (disk.reads v.disk) contents)) c.self.view_is
-    (left_some disk.reads disk.call_number disk.images disk.images_since u.disk u.setup u.logs plan u.mark u.next made h (inv.stands c.if-self.false told) room p inv.changelogs_are inv.outputs_are inv.sized c.write.new.disk (c.write.ensures.any_moment told) contents (subst (λ v. Restores v.setup (disk.reads v.disk) v.mark contents) (sym c.self.view_is) old))
+    (left_some disk.reads disk.call_number disk.images disk.images_since u.disk u.setup u.logs plan u.mark u.next made h (inv.stands c.if-self.false told) p inv.changelogs_are inv.outputs_are inv.sized c.write.new.disk (c.write.ensures.any_moment told) contents (subst (λ v. Restores v.setup (disk.reads v.disk) v.mark contents) (sym c.self.view_is) old))
 
 pub returns-in-Err-clause-others_any_moment : goal.returns-in-Err-clause-others_any_moment
 returns-in-Err-clause-others_any_moment g c = λ told.
@@ -133,24 +128,13 @@ returns-in-Err-clause-others_any_moment g c = λ told.
     let disk = g.D.Disk in
     let plan = c.in_ok-plan.plan in
     let made = c.in_ok-plan.made in
-    let p = c.in_ok-plan.ensures in
-    let room = c.has_room.ensures.room c.if-not-has_room.false in
+    let p = c.in_ok-plan.ensures.planned in
     let h = held u.holdings in
     subst (λ v. LeavesOnly disk.call_number disk.images disk.images_since v.disk c.write.new.disk (OthersStay (length v.setup.stores) (length v.setup.outputs))) c.self.view_is
-    (left_others disk.reads disk.call_number disk.images disk.images_since u.disk u.setup u.logs plan u.mark u.next made h (inv.stands c.if-self.false told) room p inv.changelogs_are inv.outputs_are inv.sized c.write.new.disk (c.write.ensures.any_moment told))
+    (left_others disk.reads disk.call_number disk.images disk.images_since u.disk u.setup u.logs plan u.mark u.next made h (inv.stands c.if-self.false told) p inv.changelogs_are inv.outputs_are inv.sized c.write.new.disk (c.write.ensures.any_moment told))
 
 pub returns-in_err-plan-clause-any_moment : goal.returns-in_err-plan-clause-any_moment
 returns-in_err-plan-clause-any_moment g c = λ told sound contents old.
-    let u = c.self.inside in
-    let inv = c.self.invariant in
-    let disk = g.D.Disk in
-    let law = (g.met.D.Disk g.world.𝓛 g.world.𝓜 g.world.𝓡 ((λ s x. x), (λ x. x), (λ x. x), λ x. x)) in
-    subst (λ v. LeavesOnly disk.call_number disk.images disk.images_since v.disk v.disk (CrashLeaves v (disk.reads v.disk) contents)) c.self.view_is
-    (still disk.reads disk.call_number disk.images disk.images_since u.disk u.setup u.logs u.mark u.next (held u.holdings) (inv.stands c.if-self.false told) inv.outputs_are (λ f left. law.only_now u.disk f told left) contents
-    (subst (λ v. Restores v.setup (disk.reads v.disk) v.mark contents) (sym c.self.view_is) old))
-
-pub returns-then-not-has_room-clause-any_moment : goal.returns-then-not-has_room-clause-any_moment
-returns-then-not-has_room-clause-any_moment g c = λ told sound contents old.
     let u = c.self.inside in
     let inv = c.self.invariant in
     let disk = g.D.Disk in
@@ -175,25 +159,18 @@ returns-in_err-plan-clause-others_any_moment g c = λ told.
     subst (λ v. LeavesOnly disk.call_number disk.images disk.images_since v.disk v.disk (OthersStay (length v.setup.stores) (length v.setup.outputs))) c.self.view_is
     (others_still disk.reads disk.call_number disk.images disk.images_since u.disk (length u.setup.stores) (length u.setup.outputs) (λ f left. law.only_now u.disk f told left))
 
-pub returns-then-not-has_room-clause-others_any_moment : goal.returns-then-not-has_room-clause-others_any_moment
-returns-then-not-has_room-clause-others_any_moment g c = λ told.
-    let u = c.self.inside in
-    let disk = g.D.Disk in
-    let law = (g.met.D.Disk g.world.𝓛 g.world.𝓜 g.world.𝓡 ((λ s x. x), (λ x. x), (λ x. x), λ x. x)) in
-    subst (λ v. LeavesOnly disk.call_number disk.images disk.images_since v.disk v.disk (OthersStay (length v.setup.stores) (length v.setup.outputs))) c.self.view_is
-    (others_still disk.reads disk.call_number disk.images disk.images_since u.disk (length u.setup.stores) (length u.setup.outputs) (λ f left. law.only_now u.disk f told left))
-
-pub returns-then-not-has_room-clause-limit : goal.returns-then-not-has_room-clause-limit
-returns-then-not-has_room-clause-limit g c = λ is told.
+pub returns-in_err-plan-clause-limit : goal.returns-in_err-plan-clause-limit
+returns-in_err-plan-clause-limit g c =
     let u = c.self.inside in
     let inv = c.self.invariant in
     let disk = g.D.Disk in
-    let plan = c.in_ok-plan.plan in
-    let made = c.in_ok-plan.made in
-    let p = c.in_ok-plan.ensures in
     let h = held u.holdings in
+    let p = err_from_is_err_and c.from_residual.result c.from_residual.ensures.1 in
+    rw (p.1, p.2)
+    (λ is told.
+    let lacks = c.in_err-plan.ensures.limit is in
     subst (λ v. CommitPasses v (disk.reads v.disk)) c.self.view_is
-    (passes_limit u.setup (disk.reads u.disk) (disk.images u.disk) u.logs plan u.mark u.next made h (inv.stands c.if-self.false told) p inv.changelogs_are inv.outputs_are inv.sized (c.has_room.ensures.none c.if-not-has_room.true))
+    (passes_limit u.setup (disk.reads u.disk) (disk.images u.disk) u.logs lacks.draft u.mark u.next lacks.made h (inv.stands c.if-self.false told) lacks.plans inv.changelogs_are inv.outputs_are inv.sized lacks.none))
 
 pub returns-clause-room : goal.returns-clause-room
 returns-clause-room g c = λ told passes.
@@ -202,10 +179,9 @@ returns-clause-room g c = λ told passes.
     let disk = g.D.Disk in
     let plan = c.in_ok-plan.plan in
     let made = c.in_ok-plan.made in
-    let p = c.in_ok-plan.ensures in
-    let room = c.has_room.ensures.room c.if-not-has_room.false in
+    let p = c.in_ok-plan.ensures.planned in
     let h = held u.holdings in
-    within_limit u.setup (disk.reads u.disk) (disk.images u.disk) u.logs plan u.mark u.next made h (inv.stands c.if-self.false told) p inv.changelogs_are inv.outputs_are inv.sized room
+    within_limit u.setup (disk.reads u.disk) (disk.images u.disk) u.logs plan u.mark u.next made h (inv.stands c.if-self.false told) p inv.changelogs_are inv.outputs_are inv.sized c.in_ok-plan.reach c.in_ok-plan.ensures.reaches
     (subst (λ v. CommitPasses v (disk.reads v.disk)) (sym c.self.view_is) passes)
 
 pub returns-in-Err-clause-tested : goal.returns-in-Err-clause-tested
@@ -215,10 +191,9 @@ returns-in-Err-clause-tested g c = λ _ told passes.
     let disk = g.D.Disk in
     let plan = c.in_ok-plan.plan in
     let made = c.in_ok-plan.made in
-    let p = c.in_ok-plan.ensures in
-    let room = c.has_room.ensures.room c.if-not-has_room.false in
+    let p = c.in_ok-plan.ensures.planned in
     let h = held u.holdings in
-    within_limit u.setup (disk.reads u.disk) (disk.images u.disk) u.logs plan u.mark u.next made h (inv.stands c.if-self.false told) p inv.changelogs_are inv.outputs_are inv.sized room
+    within_limit u.setup (disk.reads u.disk) (disk.images u.disk) u.logs plan u.mark u.next made h (inv.stands c.if-self.false told) p inv.changelogs_are inv.outputs_are inv.sized c.in_ok-plan.reach c.in_ok-plan.ensures.reaches
     (subst (λ v. CommitPasses v (disk.reads v.disk)) (sym c.self.view_is) passes)
 
 pub invariant_of-self-2 : goal.invariant_of-self-2
@@ -228,8 +203,7 @@ invariant_of-self-2 g c =
     let disk = g.D.Disk in
     let plan = c.in_ok-plan.plan in
     let made = c.in_ok-plan.made in
-    let p = c.in_ok-plan.ensures in
-    let room = c.has_room.ensures.room c.if-not-has_room.false in
+    let p = c.in_ok-plan.ensures.planned in
     let w = c.in-Ok.ensures in
     let outputs' = c.clear.new.self in
     let held' : Held = record { stores = c.flush_all.new.stores.items; unsent = outputs'.unsent; cleared = outputs'.cleared } in
@@ -245,7 +219,7 @@ invariant_of-self-2 g c =
       sound = λ _. w.sound;
       counted = λ _. w.counted ∙ ap (λ n. count_of u.logs.marks + n) p.frame.2.count_is ∙ sym p.id_is;
       stands = λ _ told. stands_made u.setup (disk.reads u.disk) (disk.reads c.write.new.disk) (disk.images u.disk) (disk.images c.write.new.disk) u.logs c.write.new.self plan u.mark u.next made (held u.holdings)
-          (inv.stands c.if-self.false told) (w.follows told) room p inv.changelogs_are inv.outputs_are w.outputs inv.sized
+          (inv.stands c.if-self.false told) (w.follows told) p inv.changelogs_are inv.outputs_are w.outputs inv.sized
           held' sized' c.flush_all.ensures.contents;
     }
 
@@ -343,7 +317,7 @@ returns-clause-counted g c = λ j lt. subst (λ v. cleared_at c.clear.new.self.c
 pub returns-clause-numbered : goal.returns-clause-numbered
 returns-clause-numbered g c =
     let u = c.self.inside in
-    c.in_ok-plan.ensures.id_is ∙ ap (λ n. n + 1) (c.self.invariant.counted c.if-self.false ∙ ap (λ v. id_of v.mark) c.self.view_is)
+    c.in_ok-plan.ensures.planned.id_is ∙ ap (λ n. n + 1) (c.self.invariant.counted c.if-self.false ∙ ap (λ v. id_of v.mark) c.self.view_is)
 
 pub returns-clause-covers : goal.returns-clause-covers
-returns-clause-covers g c = c.in_ok-plan.ensures.next_is ∙ ap (λ v. Some v.next) c.self.view_is
+returns-clause-covers g c = c.in_ok-plan.ensures.planned.next_is ∙ ap (λ v. Some v.next) c.self.view_is
