@@ -4,7 +4,6 @@
 
 mod faults;
 mod laws;
-mod lists;
 mod naming;
 mod opening;
 mod restoring;

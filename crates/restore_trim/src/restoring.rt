@@ -15,13 +15,12 @@ ghost use Rattle.restore_trim.specs.Refused.{FilesHold, StoresOpen, TellsFiles, 
 ghost use Rattle.restore_trim.specs.Standing.{AllSound, HoldsStores, HoldsOutputs, IsRestored, OthersStay, SameFrom, SameOutside};
 
 use crate::OpenFault;
-use crate::lists::put;
 use crate::opening::{open_file, open_marks};
 use crate::reverting::open_store;
 use changelog::Changelog;
 use disk_model::Disk;
 use kv_store::Table;
-use samza_model::{Checkpoint, Items, Setup};
+use samza_model::{Checkpoint, Items, Setup, put};
 use std::alloc::Global;
 use topic_log::Log;
 

@@ -23,7 +23,7 @@ pub use checkpoints::{Checkpoint, InputMark, StoreMark};
 pub use classes::Class;
 pub use jobs::Job;
 pub use limits::{FILE_LIMIT, FRAME_BATCH, KEY_LIMIT, OUTPUT_LIMIT, STORE_LIMIT, VALUE_LIMIT};
-pub use lists::Items;
+pub use lists::{Items, put};
 pub use memory::NoMemory;
 pub use messages::{Envelope, Record, Ssp, TaskName};
 pub use setups::{InputSetup, OffsetDefault, Setup, StoreSetup};

@@ -1,5 +1,5 @@
-// A list that stands in a public struct.
-ghost use Rattle.std.specs.Prelude.{◌≡◌, ◌↔◌, IfOk, IsTrue, length};
+// A list that stands in a public struct, and lists that are filled one item after another.
+ghost use Rattle.std.specs.Prelude.{◌≡◌, ◌↔◌, ◌++◌, ◌∷◌, [], IfOk, IsTrue, OnOk, length};
 
 use crate::{NoMemory, Plain};
 use std::alloc::Global;
@@ -79,4 +79,12 @@ fn same_all<T: Plain>(items: &[T], others: &[T]) -> bool
         }
     }
     true
+}
+
+/// Puts an item behind a list.
+pub fn put<T: Drop>(list: &mut Vec<T>, item: T) -> Result<(), NoMemory>
+    ensures { OnOk result (list.new.items ≡ list.old.items ++ item ∷ []) }
+{
+    list.push(item)?;
+    Ok(())
 }

@@ -26,14 +26,13 @@ ghost use Rattle.unit_logs.specs.Written.{AreSound};
 
 use crate::OpenFault;
 use crate::acting::Holdings;
-use crate::lists::put;
 use changelog::Changelog;
 use disk_model::{Disk, Shelf};
 use kv_store::{Table, TrackedTable};
 use output_log::Outputs;
 use restore_trim::{Restored, restore};
 use samza_model::{
-    Checkpoint, Envelope, InputSetup, Items, NoMemory, OffsetDefault, Plain, Record, Setup,
+    Checkpoint, Envelope, InputSetup, Items, NoMemory, OffsetDefault, Plain, Record, Setup, put,
 };
 use std::alloc::Global;
 use topic_log::{Log, LogFault, read_shelf};

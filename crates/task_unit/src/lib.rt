@@ -6,7 +6,6 @@ mod beginning;
 mod committing;
 mod faults;
 mod laws;
-mod lists;
 mod units;
 
 pub use faults::OneFault;

@@ -4,7 +4,6 @@
 mod appending;
 mod committing;
 mod faults;
-mod lists;
 mod planning;
 mod reaching;
 mod writing;

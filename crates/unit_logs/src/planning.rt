@@ -8,13 +8,14 @@ ghost use Rattle.samza_model.specs.Restored.{IsNamed, count_at, mark_names, next
 ghost use Rattle.log_frame.specs.Frame.{IsFrame};
 ghost use Rattle.unit_logs.specs.Planned.{PlansStore, PlansStores, PlansSends};
 
-use crate::lists::put;
 use checkpoint_log::encode_checkpoint;
 use kv_store::TrackedTable;
 use log_frame::{Frame, encode, frames_of};
 use output_log::Outputs;
 use restore_trim::topic_name;
-use samza_model::{Checkpoint, InputMark, Items, NoMemory, Plain, Setup, StoreMark, StoreSetup};
+use samza_model::{
+    Checkpoint, InputMark, Items, NoMemory, Plain, Setup, StoreMark, StoreSetup, put,
+};
 use std::alloc::Global;
 use topic_log::Log;
 

@@ -4,10 +4,9 @@ ghost use Rattle.unit_logs.specs.Room.{EachReaches, OneLacksRoom};
 ghost use Rattle.unit_logs.specs.Written.{IsNoRoomFor, Reaches};
 
 use crate::CommitFault;
-use crate::lists::put;
 use crate::writing::{Logs, Plan, Reach};
 use log_frame::Frame;
-use samza_model::{Items, NoMemory};
+use samza_model::{Items, NoMemory, put};
 use std::alloc::Global;
 use std::slice;
 use topic_log::{Extent, Log};
