@@ -6,13 +6,6 @@ use Rattle.samza_model.specs.Names.{is_between, is_name_byte, is_system, is_stre
 use Rattle.config_values.specs.Spelling.{is_ascii}
 use Rattle.config_values.specs.Values.{is_plain, is_job_name}
 
-pub topic_then : (name : List ℕ) (dot : ℕ) (system rest : List ℕ) (b : Bool) → dot ≡ position_or_len (λ c. c == 46) name → system ≡ take dot name → rest ≡ drop dot name → is_system system ≡ true
-    → b ≡ is_stream (drop 1 rest) → b ≡ is_topic name
-topic_then name dot system rest b is_dot is_sys is_rest tested is =
-    let s : is_system (before_first (λ c. c == 46) name) ≡ true = ap is_system (ap (λ (k : ℕ). take k name) (sym is_dot) ∙ sym is_sys) ∙ tested in
-    let t : is_stream (drop 1 rest) ≡ is_stream (after_first (λ c. c == 46) name) = ap is_stream (ap (drop 1) is_rest ∙ drop-drop 1 dot name ∙ ap (λ (k : ℕ). drop (k + 1) name) is_dot) in
-    is ∙ t ∙ sym (ap (λ (x : Bool). x && is_stream (after_first (λ c. c == 46) name)) s)
-
 pub and_left : (a b : Bool) → (a && b) ≡ true → a ≡ true
 and_left true b is = refl
 and_left false b is = is

@@ -11,5 +11,4 @@ mod reverting;
 
 pub use faults::OpenFault;
 pub use laws::restores_to_one;
-pub use naming::topic_name;
 pub use restoring::{Restored, restore};

@@ -1,23 +1,11 @@
 // Whether a checkpoint's names are a setup's.
 ghost use Rattle.std.specs.Prelude.{◌≡◌, ◌↔◌, IfOk, IsTrue, length, map};
-ghost use Rattle.samza_model.specs.Names.{topic_of};
 ghost use Rattle.samza_model.specs.Restored.{IsNamed, mark_names, marked_place, setup_names, setup_place};
 
 use samza_model::{
-    Bin, Checkpoint, InputMark, InputSetup, NoMemory, Plain, Setup, Ssp, StoreMark, StoreSetup,
+    Checkpoint, InputMark, InputSetup, NoMemory, Plain, Setup, StoreMark, StoreSetup, topic_name,
 };
 use std::alloc::Global;
-
-/// The stream's name, as `system.stream`.
-pub fn topic_name(alloc: Global, ssp: &Ssp) -> Result<Bin, NoMemory>
-    ensures { IfOk result (λ name. name ≡ topic_of ssp.now) }
-{
-    let mut name = Vec::new(alloc);
-    name.extend_from_slice(ssp.system.bytes())?;
-    name.push(b'.')?;
-    name.extend_from_slice(ssp.stream.bytes())?;
-    Ok(Bin::from_vec(name))
-}
 
 fn is_place_of(alloc: Global, mark: &InputMark, input: &InputSetup) -> Result<bool, NoMemory>
     ensures { IfOk result (λ b. IsTrue b ↔ (marked_place mark.now ≡ setup_place input.now)) }

@@ -13,6 +13,7 @@ mod limits;
 mod lists;
 mod memory;
 mod messages;
+mod names;
 mod setups;
 mod turns;
 mod values;
@@ -26,6 +27,7 @@ pub use limits::{FILE_LIMIT, FRAME_BATCH, KEY_LIMIT, OUTPUT_LIMIT, STORE_LIMIT, 
 pub use lists::{Items, put};
 pub use memory::NoMemory;
 pub use messages::{Envelope, Record, Ssp, TaskName};
+pub use names::topic_name;
 pub use setups::{InputSetup, OffsetDefault, Setup, StoreSetup};
 pub use turns::{Failure, Turn, Why};
 pub use values::Plain;

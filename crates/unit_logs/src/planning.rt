@@ -12,9 +12,8 @@ use checkpoint_log::encode_checkpoint;
 use kv_store::TrackedTable;
 use log_frame::{Frame, encode, frames_of};
 use output_log::Outputs;
-use restore_trim::topic_name;
 use samza_model::{
-    Checkpoint, InputMark, Items, NoMemory, Plain, Setup, StoreMark, StoreSetup, put,
+    Checkpoint, InputMark, Items, NoMemory, Plain, Setup, StoreMark, StoreSetup, put, topic_name,
 };
 use std::alloc::Global;
 use topic_log::Log;
