@@ -5,10 +5,10 @@ use Rattle.samza_model.specs.declared.checkpoints.Checkpoint.{Checkpoint}
 use Rattle.samza_model.specs.Checkpoint.{checkpoint_record, Spells}
 use Rattle.checkpoint_log.specs.declared.faults.CheckpointFault.{CheckpointFault}
 use Rattle.checkpoint_log.specs.declared.faults.CheckpointFault.TheVariants.{Bad, NoMemory}
-use Rattle.checkpoint_log.specs.Reading.{Fails, checkpoint_at}
+use Rattle.checkpoint_log.specs.Reading.{FailsCheckpoint, checkpoint_at}
 use Rattle.checkpoint_log.proofs.Again.{spelled_is_read, some_is}
 
-pub not_read : (r : Record) (e : CheckpointFault) → Fails e (checkpoint_at r) → e ≡ Bad → (k : Checkpoint) → Spells k r → ⊥
+pub not_read : (r : Record) (e : CheckpointFault) → FailsCheckpoint e (checkpoint_at r) → e ≡ Bad → (k : Checkpoint) → Spells k r → ⊥
 not_read r Bad is same k spells = let x : ◌≡◌ {A = Option Checkpoint} None (Some k) = sym is ∙ spelled_is_read k r spells in cc
 not_read r NoMemory is same k spells = cc
 

@@ -3,7 +3,7 @@ use Rattle.std.proofs.Common.{ℕ, suc, ◌≡◌, ◌+◌, ◌-◌, ◌≤◌, 
 use Rattle.std.proofs.lemmas.List.{append_assoc, append-nil}
 use Rattle.checkpoint_log.specs.declared.faults.CheckpointFault.{CheckpointFault}
 use Rattle.checkpoint_log.specs.declared.faults.CheckpointFault.TheVariants.{Bad, NoMemory}
-use Rattle.checkpoint_log.specs.Reading.{◌>>=◌, Fails, list_at}
+use Rattle.checkpoint_log.specs.Reading.{◌>>=◌, FailsCheckpoint, list_at}
 
 -- these items, and then what is read
 abbrev pub with_front : {A : Type 0} → List A → Option (List A × List ℕ) → Option (List A × List ℕ)
@@ -36,7 +36,7 @@ module _ {A : Type 0} (read : List ℕ → Option (A × List ℕ)) (count i : �
       let one : with_front front (list_at read (count - i) bytes) ≡ None = rw (again, h) refl in
       sym so_far ∙ one
 
-  pub ends : (front : List A) (e : CheckpointFault) (total : Option (List A × List ℕ)) → Fails e (read bytes) → with_front front (list_at read (count - i) bytes) ≡ total → Fails e total
+  pub ends : (front : List A) (e : CheckpointFault) (total : Option (List A × List ℕ)) → FailsCheckpoint e (read bytes) → with_front front (list_at read (count - i) bytes) ≡ total → FailsCheckpoint e total
   ends front Bad total h so_far = stops front total h so_far
   ends front NoMemory total h so_far = tt
 

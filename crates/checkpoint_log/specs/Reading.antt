@@ -15,14 +15,14 @@ abbrev pub ◌>>=◌ : {A B : Type 0} → Option A → (A → Option B) → Opti
 None >>= f = None
 
 -- the fault is the reading's, or want of memory
-abbrev pub Fails : {Y : Type 0} → CheckpointFault → Option Y → Type 0
-Fails NoMemory read = Unit {0}
-Fails Bad read = read ≡ None
+abbrev pub FailsCheckpoint : {Y : Type 0} → CheckpointFault → Option Y → Type 0
+FailsCheckpoint NoMemory read = Unit {0}
+FailsCheckpoint Bad read = read ≡ None
 
 -- what a function returned, seen by view, is what the reading gives, unless memory ran out
-abbrev pub Gives : {X Y : Type 0} → (X → Y) → Result X CheckpointFault → Option Y → Type 0
-Gives view (Ok x) read = read ≡ Some (view x)
-Gives view (Err e) read = Fails e read
+abbrev pub GivesCheckpoint : {X Y : Type 0} → (X → Y) → Result X CheckpointFault → Option Y → Type 0
+GivesCheckpoint view (Ok x) read = read ≡ Some (view x)
+GivesCheckpoint view (Err e) read = FailsCheckpoint e read
 
 unfoldable pub byte_at : List ℕ → Option (ℕ × List ℕ)
 byte_at [] = None

@@ -2,7 +2,7 @@
 ghost use Rattle.std.specs.Prelude.{◌≡◌, IfOk, IfErr};
 ghost use Rattle.samza_model.specs.declared.checkpoints.Checkpoint.{Checkpoint as CheckpointValue};
 ghost use Rattle.samza_model.specs.Checkpoint.{StandsFor};
-ghost use Rattle.checkpoint_log.specs.Reading.{Gives, name_at, input_at, store_at, list_at, fields_at, checkpoint_at};
+ghost use Rattle.checkpoint_log.specs.Reading.{GivesCheckpoint, name_at, input_at, store_at, list_at, fields_at, checkpoint_at};
 
 use crate::CheckpointFault;
 use crate::encoding::encode_checkpoint;
@@ -16,7 +16,7 @@ fn inputs_of(
     count: u16,
     bytes: &[u8],
 ) -> Result<(Vec<InputMark>, &[u8]), CheckpointFault>
-    ensures { Gives (λ x. (x.0.items, x.1.now)) result (list_at input_at count bytes.now) }
+    ensures { GivesCheckpoint (λ x. (x.0.items, x.1.now)) result (list_at input_at count bytes.now) }
 {
     let mut items = Vec::new(alloc);
     let mut rest = bytes;
@@ -33,7 +33,7 @@ fn stores_of(
     count: u8,
     bytes: &[u8],
 ) -> Result<(Vec<StoreMark>, &[u8]), CheckpointFault>
-    ensures { Gives (λ x. (x.0.items, x.1.now)) result (list_at store_at count bytes.now) }
+    ensures { GivesCheckpoint (λ x. (x.0.items, x.1.now)) result (list_at store_at count bytes.now) }
 {
     let mut items = Vec::new(alloc);
     let mut rest = bytes;
@@ -46,7 +46,7 @@ fn stores_of(
 }
 
 fn outputs_of(alloc: Global, count: u8, bytes: &[u8]) -> Result<(Vec<Bin>, &[u8]), CheckpointFault>
-    ensures { Gives (λ x. (x.0.items, x.1.now)) result (list_at name_at count bytes.now) }
+    ensures { GivesCheckpoint (λ x. (x.0.items, x.1.now)) result (list_at name_at count bytes.now) }
 {
     let mut items = Vec::new(alloc);
     let mut rest = bytes;
@@ -60,7 +60,7 @@ fn outputs_of(alloc: Global, count: u8, bytes: &[u8]) -> Result<(Vec<Bin>, &[u8]
 
 #[tactic(auto, unfolding(crate::specs::Reading::fields_at))]
 fn fields_of(alloc: Global, id: u64, bytes: &[u8]) -> Result<Checkpoint, CheckpointFault>
-    ensures { Gives (λ c. c) result (fields_at id bytes.now) }
+    ensures { GivesCheckpoint (λ c. c) result (fields_at id bytes.now) }
 {
     let (count, rest) = u16_of(bytes)?;
     let (inputs, rest) = inputs_of(alloc, count, rest)?;
@@ -78,7 +78,7 @@ fn fields_of(alloc: Global, id: u64, bytes: &[u8]) -> Result<Checkpoint, Checkpo
 
 #[tactic(auto, unfolding(crate::specs::Reading::checkpoint_at))]
 fn checkpoint_of(alloc: Global, r: &Record) -> Result<Checkpoint, CheckpointFault>
-    ensures { Gives (λ c. c) result (checkpoint_at r.now) }
+    ensures { GivesCheckpoint (λ c. c) result (checkpoint_at r.now) }
 {
     let (id, _) = u64_of(r.key.bytes())?;
     match &r.value {

@@ -1,6 +1,6 @@
 // The fields of a checkpoint's record, one after the other.
 ghost use Rattle.std.specs.Int.{w16, w32, w64};
-ghost use Rattle.checkpoint_log.specs.Reading.{Gives, byte_at, number_at, name_at, input_at, store_at};
+ghost use Rattle.checkpoint_log.specs.Reading.{GivesCheckpoint, byte_at, number_at, name_at, input_at, store_at};
 
 use crate::CheckpointFault;
 use samza_model::{Bin, InputMark, StoreMark};
@@ -8,7 +8,7 @@ use std::alloc::Global;
 
 #[tactic(auto, unfolding(crate::specs::Reading::byte_at))]
 pub(crate) fn byte_of(bytes: &[u8]) -> Result<(u8, &[u8]), CheckpointFault>
-    ensures { Gives (λ x. (x.0, x.1.now)) result (byte_at bytes.now) }
+    ensures { GivesCheckpoint (λ x. (x.0, x.1.now)) result (byte_at bytes.now) }
 {
     match bytes {
         [] => Err(CheckpointFault::Bad),
@@ -18,7 +18,7 @@ pub(crate) fn byte_of(bytes: &[u8]) -> Result<(u8, &[u8]), CheckpointFault>
 
 #[tactic(auto, unfolding(crate::specs::Reading::number_at))]
 pub(crate) fn u16_of(bytes: &[u8]) -> Result<(u16, &[u8]), CheckpointFault>
-    ensures { Gives (λ x. (x.0, x.1.now)) result (number_at w16 bytes.now) }
+    ensures { GivesCheckpoint (λ x. (x.0, x.1.now)) result (number_at w16 bytes.now) }
 {
     if bytes.len() < 2 {
         return Err(CheckpointFault::Bad);
@@ -29,7 +29,7 @@ pub(crate) fn u16_of(bytes: &[u8]) -> Result<(u16, &[u8]), CheckpointFault>
 
 #[tactic(auto, unfolding(crate::specs::Reading::number_at))]
 fn u32_of(bytes: &[u8]) -> Result<(u32, &[u8]), CheckpointFault>
-    ensures { Gives (λ x. (x.0, x.1.now)) result (number_at w32 bytes.now) }
+    ensures { GivesCheckpoint (λ x. (x.0, x.1.now)) result (number_at w32 bytes.now) }
 {
     if bytes.len() < 4 {
         return Err(CheckpointFault::Bad);
@@ -41,7 +41,7 @@ fn u32_of(bytes: &[u8]) -> Result<(u32, &[u8]), CheckpointFault>
 
 #[tactic(auto, unfolding(crate::specs::Reading::number_at))]
 pub(crate) fn u64_of(bytes: &[u8]) -> Result<(u64, &[u8]), CheckpointFault>
-    ensures { Gives (λ x. (x.0, x.1.now)) result (number_at w64 bytes.now) }
+    ensures { GivesCheckpoint (λ x. (x.0, x.1.now)) result (number_at w64 bytes.now) }
 {
     if bytes.len() < 8 {
         return Err(CheckpointFault::Bad);
@@ -55,7 +55,7 @@ pub(crate) fn u64_of(bytes: &[u8]) -> Result<(u64, &[u8]), CheckpointFault>
 
 #[tactic(auto, unfolding(crate::specs::Reading::name_at))]
 pub(crate) fn name_of(alloc: Global, bytes: &[u8]) -> Result<(Bin, &[u8]), CheckpointFault>
-    ensures { Gives (λ x. (x.0, x.1.now)) result (name_at bytes.now) }
+    ensures { GivesCheckpoint (λ x. (x.0, x.1.now)) result (name_at bytes.now) }
 {
     let (len, rest) = byte_of(bytes)?;
     let len = len as usize;
@@ -68,7 +68,7 @@ pub(crate) fn name_of(alloc: Global, bytes: &[u8]) -> Result<(Bin, &[u8]), Check
 
 #[tactic(auto, unfolding(crate::specs::Reading::input_at))]
 pub(crate) fn input_of(alloc: Global, bytes: &[u8]) -> Result<(InputMark, &[u8]), CheckpointFault>
-    ensures { Gives (λ x. (x.0, x.1.now)) result (input_at bytes.now) }
+    ensures { GivesCheckpoint (λ x. (x.0, x.1.now)) result (input_at bytes.now) }
 {
     let (stream, rest) = name_of(alloc, bytes)?;
     let (partition, rest) = u32_of(rest)?;
@@ -85,7 +85,7 @@ pub(crate) fn input_of(alloc: Global, bytes: &[u8]) -> Result<(InputMark, &[u8])
 
 #[tactic(auto, unfolding(crate::specs::Reading::store_at))]
 pub(crate) fn store_of(alloc: Global, bytes: &[u8]) -> Result<(StoreMark, &[u8]), CheckpointFault>
-    ensures { Gives (λ x. (x.0, x.1.now)) result (store_at bytes.now) }
+    ensures { GivesCheckpoint (λ x. (x.0, x.1.now)) result (store_at bytes.now) }
 {
     let (name, rest) = name_of(alloc, bytes)?;
     let (count, rest) = u64_of(rest)?;

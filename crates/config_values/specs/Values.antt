@@ -75,13 +75,13 @@ flag (Some t) = Ok (is_true t)
 abbrev pub own_flag : Option (List ℕ) → Result (Option Bool) What
 own_flag t = Ok (option_map is_true t)
 
-abbrev pub start_of : List ℕ → Result (Option OffsetDefault) What
-start_of t = cond (same t (codes "oldest")) (Ok (Some Oldest)) (cond (same t (codes "upcoming")) (Ok (Some Upcoming)) (Err Unknown))
+abbrev pub default_spelled : List ℕ → Result (Option OffsetDefault) What
+default_spelled t = cond (same t (codes "oldest")) (Ok (Some Oldest)) (cond (same t (codes "upcoming")) (Ok (Some Upcoming)) (Err Unknown))
 
 -- where an input begins, where a key that isn't there leaves it open
 unfoldable pub start : Option (List ℕ) → Result (Option OffsetDefault) What
 start None = Ok None
-start (Some t) = start_of t
+start (Some t) = default_spelled t
 
 abbrev pub class_of : List ℕ → Result Shipped What
 class_of name =

@@ -2,7 +2,7 @@
 ghost use Rattle.std.specs.Prelude.{◌≡◌, ◌==◌, ◌≤◌, ◌^◌, Option, option_copied, length, not};
 ghost use Rattle.std.specs.List.{list_all, after_last, suffix_len};
 ghost use Rattle.samza_model.specs.Names.{is_between};
-ghost use Rattle.config_values.specs.Values.{same, bounded, within, cut, size, raised, priority, interval, millis, lower, is_true, flag, own_flag, start_of, start, class_of, class, is_plain, is_job_name, any_text, some_text};
+ghost use Rattle.config_values.specs.Values.{same, bounded, within, cut, size, raised, priority, interval, millis, lower, is_true, flag, own_flag, default_spelled, start, class_of, class, is_plain, is_job_name, any_text, some_text};
 
 use crate::faults::What;
 use crate::numbers::number_of;
@@ -168,8 +168,8 @@ pub fn own_flag(text: Option<&[u16]>) -> Result<Option<bool>, What>
     }
 }
 
-fn start_of(text: &[u16]) -> Result<Option<OffsetDefault>, What>
-    ensures { result ≡ start_of text.now }
+fn default_spelled(text: &[u16]) -> Result<Option<OffsetDefault>, What>
+    ensures { result ≡ default_spelled text.now }
 {
     if is_same(text, b"oldest") {
         Ok(Some(OffsetDefault::Oldest))
@@ -187,7 +187,7 @@ pub fn start(text: Option<&[u16]>) -> Result<Option<OffsetDefault>, What>
 {
     match text {
         None => Ok(None),
-        Some(text) => start_of(text),
+        Some(text) => default_spelled(text),
     }
 }
 

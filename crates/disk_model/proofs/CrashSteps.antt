@@ -5,11 +5,11 @@ use Rattle.std.proofs.lemmas.List.{get_or_append_left, get_or-append_right, get_
 use Rattle.disk_model.proofs.Replays.{if_elsewhere}
 use Rattle.disk_model.proofs.Torn.{cases_in, put_at-below, put_at-behind}
 use Rattle.disk_model.specs.Cells.{filled, padded, put_at, put_padded}
-use Rattle.disk_model.specs.FileStates.{FileState, InWrites, IsFileImage, after, at_rest, replayed, with_cut, with_written}
+use Rattle.disk_model.specs.FileStates.{FileState, InWrites, IsFileImage, after, at_rest, after_all, with_cut, with_written}
 use Rattle.disk_model.specs.Formed.{Formed, formed_rest, length-put_at, now_is_image}
-use Rattle.disk_model.specs.Held.{Held}
+use Rattle.disk_model.specs.HeldBytes.{HeldBytes}
 use Rattle.disk_model.specs.Picks.{IsCrashOf, IsFilled, IsPicked, read_after, torn_after, torn_cut, torn_write, with_fronts}
-use Rattle.disk_model.specs.Traces.{bytes_at, end_of, state_of}
+use Rattle.disk_model.specs.Traces.{bytes_at, file_end, file_state}
 use Rattle.disk_model.specs.declared.picks.Pick.{Pick}
 use Rattle.disk_model.specs.declared.picks.Pick.TheVariants.{Old, New, Fill, Cut}
 use Rattle.disk_model.specs.declared.traces.Entry.{Entry}
@@ -309,7 +309,7 @@ nothing (suc n) = refl
 blank_rest : (b : List ℕ) → b ≡ [] → Blank (at_rest b)
 blank_rest b e = record { now = e; old = e; greatest = ap length e; writes = refl }
 
-blank_after : (w : List ℕ) (f there : ℕ) (e : Entry) (s : FileState) → end_of e ≤ there → there ≤ f → Blank s → Blank (after w f e s)
+blank_after : (w : List ℕ) (f there : ℕ) (e : Entry) (s : FileState) → file_end e ≤ there → there ≤ f → Blank s → Blank (after w f e s)
 blank_after w f there Quiet s le high h = h
 blank_after w f there (Wrote file at from len) s le high h =
     let ne : f ≢ file = omega arith in
@@ -327,7 +327,7 @@ blank_after w f there (Shortened file size) s le high h =
 blank_after w f there (Synced file) s le high h =
     elim (file == f) as (λ v. Blank (if v then at_rest s.now else s)) [ true ↦ blank_rest s.now h.now | false ↦ h ]
 
-blank_replayed : (es : List Entry) (w : List ℕ) (f there : ℕ) (s : FileState) → ((k : ℕ) → end_of (get_or es k Quiet) ≤ there) → there ≤ f → Blank s → Blank (replayed es w f s)
+blank_replayed : (es : List Entry) (w : List ℕ) (f there : ℕ) (s : FileState) → ((k : ℕ) → file_end (get_or es k Quiet) ≤ there) → there ≤ f → Blank s → Blank (after_all es w f s)
 blank_replayed [] w f there s le high h = h
 blank_replayed (e ∷ es) w f there s le high h =
     blank_replayed es w f there (after w f e s) (λ k. le (suc k)) high (blank_after w f there e s (le 0) high h)
@@ -344,8 +344,8 @@ picked_blank (Cut n) s c h p =
     p ∙ ap (λ (ws : List (ℕ × List ℕ)). with_fronts n ws s.old) h.writes ∙ h.old
 
 -- a crash leaves no bytes in a file that was never written
-pub crash_unwritten : (pick : Pick) (start : List Held) (es : List Entry) (w : List ℕ) (f there : ℕ) (c : List ℕ) → ((k : ℕ) → end_of (get_or es k Quiet) ≤ there) → there ≤ f → bytes_at start f ≡ [] → IsCrashOf pick (state_of start es w f) c → c ≡ []
+pub crash_unwritten : (pick : Pick) (start : List HeldBytes) (es : List Entry) (w : List ℕ) (f there : ℕ) (c : List ℕ) → ((k : ℕ) → file_end (get_or es k Quiet) ≤ there) → there ≤ f → bytes_at start f ≡ [] → IsCrashOf pick (file_state start es w f) c → c ≡ []
 crash_unwritten pick start es w f there c le high empty p =
-    picked_blank pick (state_of start es w f) c
+    picked_blank pick (file_state start es w f) c
     (blank_replayed es w f there (at_rest (bytes_at start f)) le high (blank_rest (bytes_at start f) empty))
     p.picked

@@ -2,10 +2,10 @@
 use Rattle.std.proofs.Common.{ℕ, suc, zero, ◌≡◌, ◌≢◌, ◌+◌, ◌<◌, ◌≤◌, ◌⊎◌, ◌==◌, if◌then◌else◌, true, false, List, [], ◌∷◌, ◌++◌, length, take, drop, get_or, set, refl, sym, ap, ◌∙◌, subst, arith, inl, inr, length-drop}
 use Rattle.std.proofs.lemmas.Bool.{cond-true, cond-false, eq-eqb, ne_eqb, cases_eq}
 use Rattle.std.proofs.lemmas.List.{take-append-le, drop-append-le, take_all, drop_at, get_or-set_same, get_or-set_other, set_past, length-set}
-use Rattle.disk_model.specs.Held.{Held, no_bytes}
-use Rattle.disk_model.specs.FileStates.{FileState, after, at_rest, replayed, with_cut, with_written}
+use Rattle.disk_model.specs.HeldBytes.{HeldBytes, no_bytes}
+use Rattle.disk_model.specs.FileStates.{FileState, after, at_rest, after_all, with_cut, with_written}
 use Rattle.disk_model.specs.TraceWords.{AtFile}
-use Rattle.disk_model.specs.Traces.{bytes_at, end_of, is_still, reach_of, state_of, used_by, without}
+use Rattle.disk_model.specs.Traces.{bytes_at, file_end, is_still, reach_of, file_state, used_by, without}
 use Rattle.disk_model.specs.declared.traces.Entry.{Entry}
 use Rattle.disk_model.specs.declared.traces.Entry.TheVariants.{Quiet, Shortened, Synced, Wrote}
 
@@ -15,7 +15,7 @@ if_here file f x y e = cond-true (file == f) x y (eq-eqb file f (sym e))
 pub if_elsewhere : {A : Type 0} (file f : ℕ) (x y : A) → f ≢ file → (if file == f then x else y) ≡ y
 if_elsewhere file f x y ne = cond-false (file == f) x y (ne_eqb file f (λ e. ne (sym e)))
 
-pub replayed_append : (es fs : List Entry) (w : List ℕ) (f : ℕ) (s : FileState) → replayed (es ++ fs) w f s ≡ replayed fs w f (replayed es w f s)
+pub replayed_append : (es fs : List Entry) (w : List ℕ) (f : ℕ) (s : FileState) → after_all (es ++ fs) w f s ≡ after_all fs w f (after_all es w f s)
 replayed_append [] fs w f s = refl
 replayed_append (e ∷ es) fs w f s = replayed_append es fs w f (after w f e s)
 
@@ -32,10 +32,10 @@ after_grown w b f (Wrote file at from len) s le =
 after_grown w b f (Shortened file size) s le = refl
 after_grown w b f (Synced file) s le = refl
 
-replayed_grown : (es : List Entry) (w b : List ℕ) (f : ℕ) (s : FileState) → ((k : ℕ) → used_by (get_or es k Quiet) ≤ length w) → replayed es (w ++ b) f s ≡ replayed es w f s
+replayed_grown : (es : List Entry) (w b : List ℕ) (f : ℕ) (s : FileState) → ((k : ℕ) → used_by (get_or es k Quiet) ≤ length w) → after_all es (w ++ b) f s ≡ after_all es w f s
 replayed_grown [] w b f s used = refl
 replayed_grown (e ∷ es) w b f s used =
-    ap (λ (t : FileState). replayed es (w ++ b) f t) (after_grown w b f e s (used 0))
+    ap (λ (t : FileState). after_all es (w ++ b) f t) (after_grown w b f e s (used 0))
     ∙ replayed_grown es w b f (after w f e s) (λ k. used (suc k))
 
 used_take : (j : ℕ) (es : List Entry) (n : ℕ) → ((k : ℕ) → used_by (get_or es k Quiet) ≤ n) → (k : ℕ) → used_by (get_or (take j es) k Quiet) ≤ n
@@ -81,67 +81,67 @@ still_reach (Wrote file at from len) n still = cc
 still_reach (Shortened file size) n still = omega arith
 still_reach (Synced file) n still = omega arith
 
-pub still_end : (e : Entry) (n : ℕ) → is_still e ≡ true → end_of e ≤ n
+pub still_end : (e : Entry) (n : ℕ) → is_still e ≡ true → file_end e ≤ n
 still_end Quiet n still = omega arith
 still_end (Wrote file at from len) n still = cc
 still_end (Shortened file size) n still = omega arith
 still_end (Synced file) n still = omega arith
 
-module _ (start : List Held) (noted noted' : List Entry) (e : Entry) (w : List ℕ) (is : noted' ≡ noted ++ e ∷ []) where
+module _ (start : List HeldBytes) (noted noted' : List Entry) (e : Entry) (w : List ℕ) (is : noted' ≡ noted ++ e ∷ []) where
   -- one entry more that needs no written bytes
-  pub state_more : (f : ℕ) → state_of start noted' w f ≡ after w f e (state_of start noted w f)
+  pub state_more : (f : ℕ) → file_state start noted' w f ≡ after w f e (file_state start noted w f)
   state_more f =
-      ap (λ (es : List Entry). state_of start es w f) is
+      ap (λ (es : List Entry). file_state start es w f) is
       ∙ replayed_append noted (e ∷ []) w f (at_rest (bytes_at start f))
 
-  pub state_still : is_still e ≡ true → (f : ℕ) → state_of start noted' w f ≡ after [] f e (state_of start noted w f)
-  state_still still f = state_more f ∙ still_after w [] f e (state_of start noted w f) still
+  pub state_still : is_still e ≡ true → (f : ℕ) → file_state start noted' w f ≡ after [] f e (file_state start noted w f)
+  state_still still f = state_more f ∙ still_after w [] f e (file_state start noted w f) still
 
-  pub still_kept : is_still e ≡ true → (f : ℕ) → (state_of start noted' w f).now ≡ (state_of start noted w f).now
-  still_kept still f = ap (λ (s : FileState). s.now) (state_more f) ∙ still_now w f e (state_of start noted w f) still
+  pub still_kept : is_still e ≡ true → (f : ℕ) → (file_state start noted' w f).now ≡ (file_state start noted w f).now
+  still_kept still f = ap (λ (s : FileState). s.now) (state_more f) ∙ still_now w f e (file_state start noted w f) still
 
   -- the calls before the last one
-  pub state_past : (j f : ℕ) → j ≤ length noted → state_of start (take j noted') w f ≡ state_of start (take j noted) w f
+  pub state_past : (j f : ℕ) → j ≤ length noted → file_state start (take j noted') w f ≡ file_state start (take j noted) w f
   state_past j f le =
-      ap (λ (es : List Entry). state_of start es w f)
+      ap (λ (es : List Entry). file_state start es w f)
       (ap (λ (es : List Entry). take j es) is ∙ take-append-le j noted (e ∷ []) le)
 
 -- a cut
-pub state_cut : (start : List Held) (noted noted' : List Entry) (file size : ℕ) (w : List ℕ) → noted' ≡ noted ++ Shortened file size ∷ [] → AtFile file (with_cut size) (state_of start noted w) (state_of start noted' w)
+pub state_cut : (start : List HeldBytes) (noted noted' : List Entry) (file size : ℕ) (w : List ℕ) → noted' ≡ noted ++ Shortened file size ∷ [] → AtFile file (with_cut size) (file_state start noted w) (file_state start noted' w)
 state_cut start noted noted' file size w is = record {
   here = state_more start noted noted' (Shortened file size) w is file ∙ if_here file file _ _ refl;
   elsewhere = λ f ne. state_more start noted noted' (Shortened file size) w is f ∙ if_elsewhere file f _ _ ne;
 }
 
 -- a write, with its bytes behind those of the calls before
-module _ (start : List Held) (noted noted' : List Entry) (file at : ℕ) (w w' b : List ℕ) (is : noted' ≡ noted ++ Wrote file at (length w) (length b) ∷ []) (is' : w' ≡ w ++ b) (used : (k : ℕ) → used_by (get_or noted k Quiet) ≤ length w) where
-  wrote : (f : ℕ) → state_of start noted' w' f ≡ (if file == f then with_written at b (state_of start noted w f) else state_of start noted w f)
+module _ (start : List HeldBytes) (noted noted' : List Entry) (file at : ℕ) (w w' b : List ℕ) (is : noted' ≡ noted ++ Wrote file at (length w) (length b) ∷ []) (is' : w' ≡ w ++ b) (used : (k : ℕ) → used_by (get_or noted k Quiet) ≤ length w) where
+  wrote : (f : ℕ) → file_state start noted' w' f ≡ (if file == f then with_written at b (file_state start noted w f) else file_state start noted w f)
   wrote f =
-      let s = state_of start noted w f in
+      let s = file_state start noted w f in
       let part : take (length b) (drop (length w) (w ++ b)) ≡ b =
       ap (λ (l : List ℕ). take (length b) l) (drop_at w b (length w) refl) ∙ take_all (length b) b (omega arith) in
-      ap (λ (v : List ℕ). state_of start noted' v f) is'
+      ap (λ (v : List ℕ). file_state start noted' v f) is'
       ∙ state_more start noted noted' (Wrote file at (length w) (length b)) (w ++ b) is f
       ∙ ap (λ (t : FileState). after (w ++ b) f (Wrote file at (length w) (length b)) t) (replayed_grown noted w b f (at_rest (bytes_at start f)) used)
       ∙ ap (λ (l : List ℕ). if file == f then with_written at l s else s) part
 
-  pub state_wrote : AtFile file (with_written at b) (state_of start noted w) (state_of start noted' w')
+  pub state_wrote : AtFile file (with_written at b) (file_state start noted w) (file_state start noted' w')
   state_wrote = record {
     here = wrote file ∙ if_here file file _ _ refl;
     elsewhere = λ f ne. wrote f ∙ if_elsewhere file f _ _ ne;
   }
 
-  pub wrote_past : (j f : ℕ) → j ≤ length noted → state_of start (take j noted') w' f ≡ state_of start (take j noted) w f
+  pub wrote_past : (j f : ℕ) → j ≤ length noted → file_state start (take j noted') w' f ≡ file_state start (take j noted) w f
   wrote_past j f le =
-      ap (λ (v : List ℕ). state_of start (take j noted') v f) is'
+      ap (λ (v : List ℕ). file_state start (take j noted') v f) is'
       ∙ state_past start noted noted' (Wrote file at (length w) (length b)) (w ++ b) is j f le
       ∙ replayed_grown (take j noted) w b f (at_rest (bytes_at start f)) (used_take j noted (length w) used)
 
-cases_within : (i : ℕ) (l : List Held) → (i < length l) ⊎ (length l ≤ i)
+cases_within : (i : ℕ) (l : List HeldBytes) → (i < length l) ⊎ (length l ≤ i)
 cases_within i l = grind arith
 
 -- the files' bytes stay those of the states, where one file is changed in both
-pub kept_at : (files files' : List Held) (file : ℕ) (h : Held) (change : FileState → FileState) (old new : ℕ → FileState)
+pub kept_at : (files files' : List HeldBytes) (file : ℕ) (h : HeldBytes) (change : FileState → FileState) (old new : ℕ → FileState)
     → files' ≡ set files file h
     → ((f : ℕ) → bytes_at files f ≡ (old f).now)
     → AtFile file change old new
@@ -149,48 +149,48 @@ pub kept_at : (files files' : List Held) (file : ℕ) (h : Held) (change : FileS
     → (length files ≤ file → bytes_at files file ≡ (change (old file)).now)
     → (f : ℕ) → bytes_at files' f ≡ (new f).now
 kept_at files files' file h change old new is kept step there gone f =
-    let now : (f : ℕ) → bytes_at files' f ≡ bytes_at (set files file h) f = λ f. ap (λ (l : List Held). bytes_at l f) is in
+    let now : (f : ℕ) → bytes_at files' f ≡ bytes_at (set files file h) f = λ f. ap (λ (l : List HeldBytes). bytes_at l f) is in
     elim (cases_eq f file) [
       | inl e ↦
           let at_new : (new f).now ≡ (change (old file)).now = ap (λ i. (new i).now) e ∙ ap (λ (s : FileState). s.now) step.here in
           let at_files : bytes_at files' f ≡ bytes_at (set files file h) file = now f ∙ ap (λ i. bytes_at (set files file h) i) e in
           elim (cases_within file files) [
-            | inl lt ↦ at_files ∙ ap (λ (x : Held). x.bytes) (get_or-set_same files file h no_bytes lt) ∙ there lt ∙ sym at_new
-            | inr ge ↦ at_files ∙ ap (λ (l : List Held). bytes_at l file) (set_past files file h ge) ∙ gone ge ∙ sym at_new
+            | inl lt ↦ at_files ∙ ap (λ (x : HeldBytes). x.bytes) (get_or-set_same files file h no_bytes lt) ∙ there lt ∙ sym at_new
+            | inr ge ↦ at_files ∙ ap (λ (l : List HeldBytes). bytes_at l file) (set_past files file h ge) ∙ gone ge ∙ sym at_new
           ]
       | inr ne ↦
-          now f ∙ ap (λ (x : Held). x.bytes) (get_or-set_other files file f h no_bytes ne) ∙ kept f
+          now f ∙ ap (λ (x : HeldBytes). x.bytes) (get_or-set_other files file f h no_bytes ne) ∙ kept f
           ∙ sym (ap (λ (s : FileState). s.now) (step.elsewhere f ne))
     ]
 
 -- a file's room stays where its bytes are changed
-pub rooms_set : (files files' : List Held) (file room : ℕ) (h : Held) → files' ≡ set files file h → ((k : ℕ) → k < length files → (get_or files k no_bytes).room ≡ room) → h.room ≡ (get_or files file no_bytes).room → (k : ℕ) → k < length files' → (get_or files' k no_bytes).room ≡ room
+pub rooms_set : (files files' : List HeldBytes) (file room : ℕ) (h : HeldBytes) → files' ≡ set files file h → ((k : ℕ) → k < length files → (get_or files k no_bytes).room ≡ room) → h.room ≡ (get_or files file no_bytes).room → (k : ℕ) → k < length files' → (get_or files' k no_bytes).room ≡ room
 rooms_set files files' file room h is old same k lt =
     let lt' : k < length files = omega (arith, ap length is, length-set files file h) in
-    let at : (get_or files' k no_bytes).room ≡ (get_or (set files file h) k no_bytes).room = ap (λ (l : List Held). (get_or l k no_bytes).room) is in
+    let at : (get_or files' k no_bytes).room ≡ (get_or (set files file h) k no_bytes).room = ap (λ (l : List HeldBytes). (get_or l k no_bytes).room) is in
     elim (cases_eq k file) [
       | inl e ↦
           let lt2 : file < length files = subst (λ i. i < length files) e lt' in
-          at ∙ ap (λ i. (get_or (set files file h) i no_bytes).room) e ∙ ap (λ (x : Held). x.room) (get_or-set_same files file h no_bytes lt2) ∙ same ∙ old file lt2
-      | inr ne ↦ at ∙ ap (λ (x : Held). x.room) (get_or-set_other files file k h no_bytes ne) ∙ old k lt'
+          at ∙ ap (λ i. (get_or (set files file h) i no_bytes).room) e ∙ ap (λ (x : HeldBytes). x.room) (get_or-set_same files file h no_bytes lt2) ∙ same ∙ old file lt2
+      | inr ne ↦ at ∙ ap (λ (x : HeldBytes). x.room) (get_or-set_other files file k h no_bytes ne) ∙ old k lt'
     ]
 
 -- a file that was never written stays without bytes
-pub unwritten_set : (files files' : List Held) (file there there' : ℕ) (h : Held) → files' ≡ set files file h → ((f : ℕ) → there ≤ f → bytes_at files f ≡ []) → there ≤ there' → (there' ≤ file → h.bytes ≡ []) → (f : ℕ) → there' ≤ f → bytes_at files' f ≡ []
+pub unwritten_set : (files files' : List HeldBytes) (file there there' : ℕ) (h : HeldBytes) → files' ≡ set files file h → ((f : ℕ) → there ≤ f → bytes_at files f ≡ []) → there ≤ there' → (there' ≤ file → h.bytes ≡ []) → (f : ℕ) → there' ≤ f → bytes_at files' f ≡ []
 unwritten_set files files' file there there' h is none up here f high =
-    let now : bytes_at files' f ≡ bytes_at (set files file h) f = ap (λ (l : List Held). bytes_at l f) is in
+    let now : bytes_at files' f ≡ bytes_at (set files file h) f = ap (λ (l : List HeldBytes). bytes_at l f) is in
     let high' : there ≤ f = omega arith in
     elim (cases_eq f file) [
       | inl e ↦
           let low : there' ≤ file = omega arith in
           let at_files : bytes_at files' f ≡ bytes_at (set files file h) file = now ∙ ap (λ i. bytes_at (set files file h) i) e in
           elim (cases_within file files) [
-            | inl lt ↦ at_files ∙ ap (λ (x : Held). x.bytes) (get_or-set_same files file h no_bytes lt) ∙ here low
+            | inl lt ↦ at_files ∙ ap (λ (x : HeldBytes). x.bytes) (get_or-set_same files file h no_bytes lt) ∙ here low
             | inr ge ↦
-                at_files ∙ ap (λ (l : List Held). bytes_at l file) (set_past files file h ge)
+                at_files ∙ ap (λ (l : List HeldBytes). bytes_at l file) (set_past files file h ge)
                 ∙ none file (omega arith)
           ]
-      | inr ne ↦ now ∙ ap (λ (x : Held). x.bytes) (get_or-set_other files file f h no_bytes ne) ∙ none f high'
+      | inr ne ↦ now ∙ ap (λ (x : HeldBytes). x.bytes) (get_or-set_other files file f h no_bytes ne) ∙ none f high'
     ]
 
 after_without : (w : List ℕ) (f g : ℕ) (e : Entry) (s : FileState) → f ≢ g → after w f (without g e) s ≡ after w f e s
@@ -232,23 +232,23 @@ after_nothing w g (Synced file) s = elim (cases_eq g file) [
 ]
 
 -- the calls without those of one file
-pub forgotten_elsewhere : (es es' : List Entry) (w : List ℕ) (f g : ℕ) (s : FileState) → length es' ≡ length es → ((k : ℕ) → get_or es' k Quiet ≡ without g (get_or es k Quiet)) → f ≢ g → replayed es' w f s ≡ replayed es w f s
+pub forgotten_elsewhere : (es es' : List Entry) (w : List ℕ) (f g : ℕ) (s : FileState) → length es' ≡ length es → ((k : ℕ) → get_or es' k Quiet ≡ without g (get_or es k Quiet)) → f ≢ g → after_all es' w f s ≡ after_all es w f s
 forgotten_elsewhere [] [] w f g s len each ne = refl
 forgotten_elsewhere [] (x ∷ xs) w f g s len each ne = cc
 forgotten_elsewhere (e ∷ es) [] w f g s len each ne = cc
 forgotten_elsewhere (e ∷ es) (x ∷ xs) w f g s len each ne =
     let now : after w f x s ≡ after w f e s = ap (λ (y : Entry). after w f y s) (each 0) ∙ after_without w f g e s ne in
     let len' : length xs ≡ length es = omega arith in
-    ap (λ (t : FileState). replayed xs w f t) now ∙ forgotten_elsewhere es xs w f g (after w f e s) len' (λ k. each (suc k)) ne
+    ap (λ (t : FileState). after_all xs w f t) now ∙ forgotten_elsewhere es xs w f g (after w f e s) len' (λ k. each (suc k)) ne
 
-pub forgotten_here : (es es' : List Entry) (w : List ℕ) (g : ℕ) (s : FileState) → length es' ≡ length es → ((k : ℕ) → get_or es' k Quiet ≡ without g (get_or es k Quiet)) → replayed es' w g s ≡ s
+pub forgotten_here : (es es' : List Entry) (w : List ℕ) (g : ℕ) (s : FileState) → length es' ≡ length es → ((k : ℕ) → get_or es' k Quiet ≡ without g (get_or es k Quiet)) → after_all es' w g s ≡ s
 forgotten_here [] [] w g s len each = refl
 forgotten_here [] (x ∷ xs) w g s len each = cc
 forgotten_here (e ∷ es) [] w g s len each = cc
 forgotten_here (e ∷ es) (x ∷ xs) w g s len each =
     let now : after w g x s ≡ s = ap (λ (y : Entry). after w g y s) (each 0) ∙ after_nothing w g e s in
     let len' : length xs ≡ length es = omega arith in
-    ap (λ (t : FileState). replayed xs w g t) now ∙ forgotten_here es xs w g s len' (λ k. each (suc k))
+    ap (λ (t : FileState). after_all xs w g t) now ∙ forgotten_here es xs w g s len' (λ k. each (suc k))
 
 used_without : (g : ℕ) (e : Entry) (n : ℕ) → used_by e ≤ n → used_by (without g e) ≤ n
 used_without g Quiet n le = le
@@ -262,11 +262,11 @@ reach_without g (Wrote file at from len) n le = elim (file == g) as (λ v. reach
 reach_without g (Shortened file size) n le = elim (file == g) as (λ v. reach_of (if v then Quiet else Shortened file size) ≤ n) [ true ↦ omega arith | false ↦ le ]
 reach_without g (Synced file) n le = elim (file == g) as (λ v. reach_of (if v then Quiet else Synced file) ≤ n) [ true ↦ omega arith | false ↦ le ]
 
-end_without : (g : ℕ) (e : Entry) (n : ℕ) → end_of e ≤ n → end_of (without g e) ≤ n
+end_without : (g : ℕ) (e : Entry) (n : ℕ) → file_end e ≤ n → file_end (without g e) ≤ n
 end_without g Quiet n le = le
-end_without g (Wrote file at from len) n le = elim (file == g) as (λ v. end_of (if v then Quiet else Wrote file at from len) ≤ n) [ true ↦ omega arith | false ↦ le ]
-end_without g (Shortened file size) n le = elim (file == g) as (λ v. end_of (if v then Quiet else Shortened file size) ≤ n) [ true ↦ omega arith | false ↦ le ]
-end_without g (Synced file) n le = elim (file == g) as (λ v. end_of (if v then Quiet else Synced file) ≤ n) [ true ↦ omega arith | false ↦ le ]
+end_without g (Wrote file at from len) n le = elim (file == g) as (λ v. file_end (if v then Quiet else Wrote file at from len) ≤ n) [ true ↦ omega arith | false ↦ le ]
+end_without g (Shortened file size) n le = elim (file == g) as (λ v. file_end (if v then Quiet else Shortened file size) ≤ n) [ true ↦ omega arith | false ↦ le ]
+end_without g (Synced file) n le = elim (file == g) as (λ v. file_end (if v then Quiet else Synced file) ≤ n) [ true ↦ omega arith | false ↦ le ]
 
 module _ (es es' : List Entry) (g n : ℕ) (each : (k : ℕ) → get_or es' k Quiet ≡ without g (get_or es k Quiet)) where
   pub used_forgotten : ((k : ℕ) → used_by (get_or es k Quiet) ≤ n) → (k : ℕ) → used_by (get_or es' k Quiet) ≤ n
@@ -275,22 +275,22 @@ module _ (es es' : List Entry) (g n : ℕ) (each : (k : ℕ) → get_or es' k Qu
   pub reach_forgotten : ((k : ℕ) → reach_of (get_or es k Quiet) ≤ n) → (k : ℕ) → reach_of (get_or es' k Quiet) ≤ n
   reach_forgotten old k = subst (λ (e : Entry). reach_of e ≤ n) (sym (each k)) (reach_without g (get_or es k Quiet) n (old k))
 
-  pub end_forgotten : ((k : ℕ) → end_of (get_or es k Quiet) ≤ n) → (k : ℕ) → end_of (get_or es' k Quiet) ≤ n
-  end_forgotten old k = subst (λ (e : Entry). end_of e ≤ n) (sym (each k)) (end_without g (get_or es k Quiet) n (old k))
+  pub end_forgotten : ((k : ℕ) → file_end (get_or es k Quiet) ≤ n) → (k : ℕ) → file_end (get_or es' k Quiet) ≤ n
+  end_forgotten old k = subst (λ (e : Entry). file_end e ≤ n) (sym (each k)) (end_without g (get_or es k Quiet) n (old k))
 
 -- a file's bytes put in place from the start on
-pub state_placed : (start start' : List Held) (es es' : List Entry) (w b : List ℕ) (g : ℕ) (h : Held)
+pub state_placed : (start start' : List HeldBytes) (es es' : List Entry) (w b : List ℕ) (g : ℕ) (h : HeldBytes)
     → start' ≡ set start g h → h.bytes ≡ b → g < length start
     → length es' ≡ length es → ((k : ℕ) → get_or es' k Quiet ≡ without g (get_or es k Quiet))
-    → AtFile g (λ _. at_rest b) (state_of start es w) (state_of start' es' w)
+    → AtFile g (λ _. at_rest b) (file_state start es w) (file_state start' es' w)
 state_placed start start' es es' w b g h is bytes lt len each = record {
   here =
       forgotten_here es es' w g (at_rest (bytes_at start' g)) len each
-      ∙ ap (λ (l : List Held). at_rest (bytes_at l g)) is
-      ∙ ap (λ (x : Held). at_rest x.bytes) (get_or-set_same start g h no_bytes lt)
+      ∙ ap (λ (l : List HeldBytes). at_rest (bytes_at l g)) is
+      ∙ ap (λ (x : HeldBytes). at_rest x.bytes) (get_or-set_same start g h no_bytes lt)
       ∙ ap at_rest bytes;
   elsewhere = λ f ne.
       forgotten_elsewhere es es' w f g (at_rest (bytes_at start' f)) len each ne
-      ∙ ap (λ (l : List Held). replayed es w f (at_rest (bytes_at l f))) is
-      ∙ ap (λ (x : Held). replayed es w f (at_rest x.bytes)) (get_or-set_other start g f h no_bytes ne);
+      ∙ ap (λ (l : List HeldBytes). after_all es w f (at_rest (bytes_at l f))) is
+      ∙ ap (λ (x : HeldBytes). after_all es w f (at_rest x.bytes)) (get_or-set_other start g f h no_bytes ne);
 }

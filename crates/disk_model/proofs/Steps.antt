@@ -7,7 +7,7 @@ use Rattle.disk_model.proofs.Torn.{cut_back, rest_only, torn_back}
 use Rattle.disk_model.specs.FileStates.{FileState, IsFileImage, IsImage, at_rest, with_cut, with_written}
 use Rattle.disk_model.specs.Formed.{Formed, now_is_image, then_now}
 use Rattle.disk_model.specs.Images.{Follows, Joins, Keeps, TornCut, TornWrite}
-use Rattle.disk_model.specs.TraceWords.{AtFile, count_of, now_of, then_of}
+use Rattle.disk_model.specs.TraceWords.{AtFile, calls_noted, now_of, then_of}
 use Rattle.disk_model.specs.declared.traces.Trace.{Trace}
 
 -- an image of states is one of the same states
@@ -126,15 +126,15 @@ joins calls calls' old new now le le' same last = record {
 -- the same of a disk in memory
 pub joins_trace : (calls calls' : ℕ) (old new : Trace)
     → calls ≤ calls' → calls' ≤ calls + 1
-    → count_of old ≡ min calls old.limit
-    → count_of new ≡ min (count_of old + 1) old.limit
-    → ((j f : ℕ) → (count_of old < old.limit → j ≤ count_of old) → then_of new j f ≡ then_of old j f)
+    → calls_noted old ≡ min calls old.limit
+    → calls_noted new ≡ min (calls_noted old + 1) old.limit
+    → ((j f : ℕ) → (calls_noted old < old.limit → j ≤ calls_noted old) → then_of new j f ≡ then_of old j f)
     → Joins calls
     (λ k c. (j : ℕ) × (k ≤ j) × (j ≤ calls) × IsImage (then_of old j) c)
     (λ k c. (j : ℕ) × (k ≤ j) × (j ≤ calls') × IsImage (then_of new j) c)
     (IsImage (now_of new))
 joins_trace calls calls' old new le le' counted count past =
-    let last : count_of new ≤ calls + 1 = omega arith in
+    let last : calls_noted new ≤ calls + 1 = omega arith in
     joins calls calls' (then_of old) (then_of new) (now_of new) le le'
     (λ j f low. past j f (λ open'. omega arith))
     (λ f. then_now new (calls + 1) f last)

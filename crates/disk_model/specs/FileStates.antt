@@ -57,6 +57,6 @@ after written f (Shortened file size) s = if file == f then with_cut size s else
 after written f (Synced file) s = if file == f then at_rest s.now else s
 
 -- a file after the calls in order
-abbrev pub replayed : List Entry → List ℕ → ℕ → FileState → FileState
-replayed [] written f s = s
-replayed (e ∷ es) written f s = replayed es written f (after written f e s)
+abbrev pub after_all : List Entry → List ℕ → ℕ → FileState → FileState
+after_all [] written f s = s
+after_all (e ∷ es) written f s = after_all es written f (after written f e s)

@@ -3,10 +3,10 @@ use Rattle.std.specs.Prelude.{ℕ, ◌≡◌, ◌+◌, ◌-◌, ◌≤◌, ◌==
 use Rattle.std.proofs.Common.{arith, length-append, length-take, length-drop, ap}
 use Rattle.std.proofs.lemmas.List.{take_all}
 use Rattle.disk_model.specs.Cells.{put_at}
-use Rattle.disk_model.specs.FileStates.{FileState, IsFileImage, after, at_rest, replayed, with_cut, with_written}
-use Rattle.disk_model.specs.Held.{Held}
-use Rattle.disk_model.specs.TraceWords.{count_of, now_of, then_of}
-use Rattle.disk_model.specs.Traces.{bytes_at, state_of}
+use Rattle.disk_model.specs.FileStates.{FileState, IsFileImage, after, at_rest, after_all, with_cut, with_written}
+use Rattle.disk_model.specs.HeldBytes.{HeldBytes}
+use Rattle.disk_model.specs.TraceWords.{calls_noted, now_of, then_of}
+use Rattle.disk_model.specs.Traces.{bytes_at, file_state}
 use Rattle.disk_model.specs.declared.traces.Entry.{Entry}
 use Rattle.disk_model.specs.declared.traces.Entry.TheVariants.{Quiet, Shortened, Synced, Wrote}
 use Rattle.disk_model.specs.declared.traces.Trace.{Trace}
@@ -48,11 +48,11 @@ formed_after w f (Shortened file size) s h =
 formed_after w f (Synced file) s h =
     elim (file == f) as (λ v. Formed (if v then at_rest s.now else s)) [ true ↦ formed_rest s.now | false ↦ h ]
 
-formed_replayed : (es : List Entry) (w : List ℕ) (f : ℕ) (s : FileState) → Formed s → Formed (replayed es w f s)
+formed_replayed : (es : List Entry) (w : List ℕ) (f : ℕ) (s : FileState) → Formed s → Formed (after_all es w f s)
 formed_replayed [] w f s h = h
 formed_replayed (e ∷ es) w f s h = formed_replayed es w f (after w f e s) (formed_after w f e s h)
 
-pub formed : (start : List Held) (noted : List Entry) (w : List ℕ) (f : ℕ) → Formed (state_of start noted w f)
+pub formed : (start : List HeldBytes) (noted : List Entry) (w : List ℕ) (f : ℕ) → Formed (file_state start noted w f)
 formed start noted w f = formed_replayed noted w f (at_rest (bytes_at start f)) (formed_rest (bytes_at start f))
 
 -- what a read gives is an image
@@ -60,5 +60,5 @@ pub now_is_image : (s : FileState) → Formed s → IsFileImage s s.now
 now_is_image s h = record { no_shorter = h.low; no_longer = h.high; same = λ i lt free. refl }
 
 -- the files after as many calls as there are entries, or more
-pub then_now : (t : Trace) (j f : ℕ) → count_of t ≤ j → then_of t j f ≡ now_of t f
-then_now t j f le = ap (λ (es : List Entry). state_of t.start.items es t.written.items f) (take_all j t.noted.items le)
+pub then_now : (t : Trace) (j f : ℕ) → calls_noted t ≤ j → then_of t j f ≡ now_of t f
+then_now t j f le = ap (λ (es : List Entry). file_state t.start.items es t.written.items f) (take_all j t.noted.items le)

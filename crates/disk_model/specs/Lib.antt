@@ -9,7 +9,7 @@ pub mod Folders
 pub mod Formed
 pub mod HandedOut
 pub mod Handles
-pub mod Held
+pub mod HeldBytes
 pub mod HostLaws
 pub mod HostSteps
 pub mod Images

@@ -2,7 +2,7 @@
 use Rattle.std.specs.Prelude.{ℕ, ◌≡◌, ◌+◌, ◌-◌, ◌<◌, ◌≤◌, ◌⊎◌, ◌==◌, if◌then◌else◌, min, List, [], ◌∷◌, length, take, drop, get_or}
 use Rattle.disk_model.specs.Cells.{filled, put_at, put_padded}
 use Rattle.disk_model.specs.FileStates.{FileState, InWrites, IsFileImage}
-use Rattle.disk_model.specs.Held.{Held, no_bytes}
+use Rattle.disk_model.specs.HeldBytes.{HeldBytes, no_bytes}
 use Rattle.disk_model.specs.declared.picks.Pick.{Pick}
 use Rattle.disk_model.specs.declared.picks.Pick.TheVariants.{Old, New, Fill, Cut}
 use Rattle.disk_model.specs.declared.traces.Entry.{Entry}
@@ -59,12 +59,12 @@ torn_after pick written f (Shortened file size) now c = if file == f then torn_c
 torn_after pick written f (Synced file) now c = if file == f then now else c
 
 -- as many files, of the same rooms
-pub record SameRooms (old new : List Held) : Type 0 where
+pub record SameRooms (old new : List HeldBytes) : Type 0 where
   pub len : length new ≡ length old
   pub rooms : (k : ℕ) → (get_or new k no_bytes).room ≡ (get_or old k no_bytes).room
 
 -- a call's file is there, and has room for what was written
-abbrev pub FitsIn : List Held → Entry → Type 0
+abbrev pub FitsIn : List HeldBytes → Entry → Type 0
 FitsIn files Quiet = Unit {0}
 FitsIn files (Wrote file at from len) = (file < length files) × (at + len ≤ (get_or files file no_bytes).room)
 FitsIn files (Shortened file size) = Unit {0}

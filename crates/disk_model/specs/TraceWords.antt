@@ -3,12 +3,12 @@ use Rattle.std.specs.Prelude.{ℕ, ◌≡◌, ◌≢◌, ◌+◌, ◌&&◌, Bool
 use Rattle.samza_model.specs.Files.{Image}
 use Rattle.disk_model.specs.Capacities.{Capacity}
 use Rattle.disk_model.specs.FileStates.{FileState}
-use Rattle.disk_model.specs.Traces.{bytes_at, state_of}
+use Rattle.disk_model.specs.Traces.{bytes_at, file_state}
 use Rattle.disk_model.specs.declared.traces.Trace.{Trace}
 
 -- the number of entries
-abbrev pub count_of : Trace → ℕ
-count_of t = length t.noted.items
+abbrev pub calls_noted : Trace → ℕ
+calls_noted t = length t.noted.items
 
 abbrev pub capacity_of : Trace → Capacity
 capacity_of t = record { files = length t.files.items; room = t.room; calls = t.limit; used = length t.written.items }
@@ -18,11 +18,11 @@ bytes_of t = bytes_at t.files.items
 
 -- each file now
 abbrev pub now_of : Trace → ℕ → FileState
-now_of t = state_of t.start.items t.noted.items t.written.items
+now_of t = file_state t.start.items t.noted.items t.written.items
 
 -- each file after so many calls
 abbrev pub then_of : Trace → ℕ → ℕ → FileState
-then_of t j = state_of t.start.items (take j t.noted.items) t.written.items
+then_of t j = file_state t.start.items (take j t.noted.items) t.written.items
 
 -- a change of one file
 pub record AtFile (file : ℕ) (change : FileState → FileState) (old new : ℕ → FileState) : Type 0 where

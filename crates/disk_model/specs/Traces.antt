@@ -1,18 +1,18 @@
 -- The files of a disk in memory, from what they were at the start and from the record of its calls.
 use Rattle.std.specs.Prelude.{ℕ, ◌+◌, Bool, true, false, ◌==◌, if◌then◌else◌, List, get_or}
 use Rattle.samza_model.specs.Files.{Image}
-use Rattle.disk_model.specs.Held.{Held, no_bytes}
-use Rattle.disk_model.specs.FileStates.{FileState, at_rest, replayed}
+use Rattle.disk_model.specs.HeldBytes.{HeldBytes, no_bytes}
+use Rattle.disk_model.specs.FileStates.{FileState, at_rest, after_all}
 use Rattle.disk_model.specs.declared.traces.Entry.{Entry}
 use Rattle.disk_model.specs.declared.traces.Entry.TheVariants.{Quiet, Wrote, Shortened, Synced}
 
 -- a file's bytes; one that isn't there has none
-abbrev pub bytes_at : List Held → Image
+abbrev pub bytes_at : List HeldBytes → Image
 bytes_at files f = (get_or files f no_bytes).bytes
 
 -- each file after these calls
-abbrev pub state_of : List Held → List Entry → List ℕ → ℕ → FileState
-state_of start noted written f = replayed noted written f (at_rest (bytes_at start f))
+abbrev pub file_state : List HeldBytes → List Entry → List ℕ → ℕ → FileState
+file_state start noted written f = after_all noted written f (at_rest (bytes_at start f))
 
 -- how many of the written bytes there are up to those of this call
 abbrev pub used_by : Entry → ℕ
@@ -43,8 +43,8 @@ without f (Shortened file size) = if file == f then Quiet else Shortened file si
 without f (Synced file) = if file == f then Quiet else Synced file
 
 -- one more than the number of the file that a call wrote
-abbrev pub end_of : Entry → ℕ
-end_of Quiet = 0
-end_of (Wrote file at from len) = file + 1
-end_of (Shortened file size) = 0
-end_of (Synced file) = 0
+abbrev pub file_end : Entry → ℕ
+file_end Quiet = 0
+file_end (Wrote file at from len) = file + 1
+file_end (Shortened file size) = 0
+file_end (Synced file) = 0

@@ -15,9 +15,9 @@ pub(crate) struct Cells {
 
 impl Model for Cells {
     ghost use Rattle.std.specs.Prelude.{◌≤◌, length, vec_capacity};
-    ghost use Rattle.disk_model.specs.Held.{Held};
+    ghost use Rattle.disk_model.specs.HeldBytes.{HeldBytes};
 
-    ghost Value = { Held };
+    ghost Value = { HeldBytes };
 
     ghost view = { λ c. record { bytes = c.bytes.items; room = c.room } };
 

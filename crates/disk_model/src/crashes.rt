@@ -1,8 +1,8 @@
 // What a crash leaves of the files of a disk in memory: its calls are gone over anew, in the order in which they came.
 ghost use Rattle.std.specs.Prelude.{◌≡◌, ◌+◌, ◌<◌, ◌≤◌, ◌^◌, ℕ, length, get_or, set};
-ghost use Rattle.disk_model.specs.Held.{no_bytes};
+ghost use Rattle.disk_model.specs.HeldBytes.{no_bytes};
 ghost use Rattle.disk_model.specs.Picks.{torn_write, torn_cut, read_after, torn_after, SameRooms, FitsIn, IsCrashOf};
-ghost use Rattle.disk_model.specs.Traces.{bytes_at, state_of, used_by};
+ghost use Rattle.disk_model.specs.Traces.{bytes_at, file_state, used_by};
 ghost use Rattle.disk_model.specs.declared.traces.Entry.TheVariants.{Quiet};
 
 use crate::Pick;
@@ -147,7 +147,7 @@ pub(crate) fn redo_all(
     requires fits { (k : ℕ) → FitsIn files.old.items (get_or noted.now k Quiet) }
     requires used { (k : ℕ) → used_by (get_or noted.now k Quiet) ≤ length written.now }
     ensures torn { (f : ℕ)
-        → IsCrashOf pick (state_of torn.old.items noted.now written.now f)
+        → IsCrashOf pick (file_state torn.old.items noted.now written.now f)
         (bytes_at torn.new.items f) }
     ensures file_rooms { SameRooms files.old.items files.new.items }
     ensures torn_rooms { SameRooms torn.old.items torn.new.items }

@@ -1,6 +1,6 @@
 // A disk in memory, which may be told which calls fail, and shows what a crash leaves.
 ghost use Rattle.std.specs.Prelude.{◌≡◌, ◌<◌, ◌^◌, min};
-ghost use Rattle.disk_model.specs.TraceWords.{count_of};
+ghost use Rattle.disk_model.specs.TraceWords.{calls_noted};
 
 use crate::memory_steps::{read_from, sync_entry};
 use crate::tallies::Tally;
@@ -15,7 +15,7 @@ pub struct MemDisk {
     name: DiskName,
     trace: Trace,
     tally: Tally,
-    ghost counted: { count_of trace ≡ min tally.calls trace.limit },
+    ghost counted: { calls_noted trace ≡ min tally.calls trace.limit },
     ghost small: { trace.limit < 2 ^ 64 },
 }
 

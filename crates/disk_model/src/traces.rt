@@ -1,8 +1,8 @@
 // The files of a disk in memory, with a record of the calls that changed them.
 ghost use Rattle.std.specs.Prelude.{◌≡◌, ◌+◌, ◌-◌, ◌<◌, ◌≤◌, ◌^◌, ℕ, List, IfOk, [], ◌∷◌, ◌++◌, length, take, drop, get_or, vec_capacity, replicate, set};
 ghost use Rattle.disk_model.specs.Cells.{put_at};
-ghost use Rattle.disk_model.specs.Held.{no_bytes};
-ghost use Rattle.disk_model.specs.Traces.{bytes_at, state_of, used_by, reach_of, end_of, without};
+ghost use Rattle.disk_model.specs.HeldBytes.{no_bytes};
+ghost use Rattle.disk_model.specs.Traces.{bytes_at, file_state, used_by, reach_of, file_end, without};
 ghost use Rattle.disk_model.specs.declared.traces.Entry.{Entry};
 ghost use Rattle.disk_model.specs.declared.traces.Entry.TheVariants.{Quiet};
 
@@ -42,7 +42,7 @@ pub(crate) struct Trace {
     pub(crate) limit: usize,
     /// One more than the greatest number of a file that was written.
     pub(crate) there: usize,
-    ghost kept: { (f : ℕ) → bytes_at files.items f ≡ (state_of start.items noted.items written.items f).now },
+    ghost kept: { (f : ℕ) → bytes_at files.items f ≡ (file_state start.items noted.items written.items f).now },
     ghost used: { (k : ℕ) → used_by (get_or noted.items k Quiet) ≤ length written.items },
     ghost reach: { (k : ℕ) → reach_of (get_or noted.items k Quiet) ≤ room },
     ghost start_rooms: { (k : ℕ) → k < length start.items → (get_or start.items k no_bytes).room ≡ room },
@@ -53,7 +53,7 @@ pub(crate) struct Trace {
     ghost written_room: { room ≤ vec_capacity written },
     ghost unwritten: { (f : ℕ) → there ≤ f → bytes_at files.items f ≡ [] },
     ghost unstarted: { (f : ℕ) → there ≤ f → bytes_at start.items f ≡ [] },
-    ghost known: { (k : ℕ) → end_of (get_or noted.items k Quiet) ≤ there },
+    ghost known: { (k : ℕ) → file_end (get_or noted.items k Quiet) ≤ there },
     ghost few: { there ≤ length files.items },
 }
 
@@ -63,7 +63,7 @@ impl Trace {
     ghost use Rattle.disk_model.specs.FileStates.{after, at_rest, with_written, with_cut};
     ghost use Rattle.disk_model.specs.Picks.{IsCrashOf};
     ghost use Rattle.disk_model.specs.Traces.{is_still};
-    ghost use Rattle.disk_model.specs.TraceWords.{capacity_of, count_of, now_of, then_of, bytes_of, has_room_in, AtFile};
+    ghost use Rattle.disk_model.specs.TraceWords.{capacity_of, calls_noted, now_of, then_of, bytes_of, has_room_in, AtFile};
 
     /// Empty files, and all the memory that the calls will need.
     pub(crate) fn new(
@@ -72,7 +72,7 @@ impl Trace {
         room: usize,
         calls: usize,
     ) -> Result<Trace, NoMemory>
-        ensures count { IfOk result (λ t. count_of t ≡ 0) }
+        ensures count { IfOk result (λ t. calls_noted t ≡ 0) }
         ensures limit { IfOk result (λ t. t.limit ≡ calls) }
         ensures empty { IfOk result (λ t. (f : ℕ) → now_of t f ≡ at_rest []) }
         ensures there { IfOk result (λ t. t.there ≡ 0) }
@@ -104,7 +104,7 @@ impl Trace {
     }
 
     fn is_full(&self) -> bool
-        ensures { IsTrue result ↔ (self.now.limit ≤ count_of self.now) }
+        ensures { IsTrue result ↔ (self.now.limit ≤ calls_noted self.now) }
     {
         self.noted.len() >= self.limit
     }
@@ -112,11 +112,11 @@ impl Trace {
     /// Notes a call that changes no bytes. Where the record is full it is false, and nothing changes.
     pub(crate) fn note(&mut self, entry: Entry) -> bool
         requires { is_still entry ≡ true }
-        ensures full { self.old.limit ≤ count_of self.old → result ≡ false }
-        ensures open { count_of self.old < self.old.limit → result ≡ true }
+        ensures full { self.old.limit ≤ calls_noted self.old → result ≡ false }
+        ensures open { calls_noted self.old < self.old.limit → result ≡ true }
         ensures limit { self.new.limit ≡ self.old.limit }
-        ensures count { count_of self.new ≡ min (count_of self.old + 1) self.old.limit }
-        ensures past { (j f : ℕ) → (count_of self.old < self.old.limit → j ≤ count_of self.old)
+        ensures count { calls_noted self.new ≡ min (calls_noted self.old + 1) self.old.limit }
+        ensures past { (j f : ℕ) → (calls_noted self.old < self.old.limit → j ≤ calls_noted self.old)
             → then_of self.new j f ≡ then_of self.old j f }
         ensures noted { result ≡ true → (f : ℕ)
             → now_of self.new f ≡ after [] f entry (now_of self.old f) }
@@ -144,12 +144,12 @@ impl Trace {
 
     /// Writes bytes, if there is room. If not, or where the record is full, it is false, and no bytes change.
     pub(crate) fn write(&mut self, file: u32, at: usize, bytes: &[u8]) -> bool
-        ensures full { self.old.limit ≤ count_of self.old → result ≡ false }
-        ensures room { count_of self.old < self.old.limit
+        ensures full { self.old.limit ≤ calls_noted self.old → result ≡ false }
+        ensures room { calls_noted self.old < self.old.limit
             → result ≡ has_room_in self.old file at (length bytes.now) }
         ensures limit { self.new.limit ≡ self.old.limit }
-        ensures count { count_of self.new ≡ min (count_of self.old + 1) self.old.limit }
-        ensures past { (j f : ℕ) → (count_of self.old < self.old.limit → j ≤ count_of self.old)
+        ensures count { calls_noted self.new ≡ min (calls_noted self.old + 1) self.old.limit }
+        ensures past { (j f : ℕ) → (calls_noted self.old < self.old.limit → j ≤ calls_noted self.old)
             → then_of self.new j f ≡ then_of self.old j f }
         ensures made { result ≡ true
             → AtFile file (with_written at bytes.now) (now_of self.old) (now_of self.new) }
@@ -169,13 +169,13 @@ impl Trace {
     }
 
     fn put(&mut self, file: u32, at: usize, bytes: &[u8])
-        requires open { count_of self.old < self.old.limit }
+        requires open { calls_noted self.old < self.old.limit }
         requires there { file < length self.old.files.items }
         requires reach { at + length bytes.now ≤ self.old.room }
         requires used { length self.old.written.items + length bytes.now ≤ self.old.room }
         ensures limit { self.new.limit ≡ self.old.limit }
-        ensures count { count_of self.new ≡ count_of self.old + 1 }
-        ensures past { (j f : ℕ) → j ≤ count_of self.old
+        ensures count { calls_noted self.new ≡ calls_noted self.old + 1 }
+        ensures past { (j f : ℕ) → j ≤ calls_noted self.old
             → then_of self.new j f ≡ then_of self.old j f }
         ensures capacity { capacity_of self.new ≡ with_used (length bytes.now)
             (capacity_of self.old) }
@@ -199,11 +199,11 @@ impl Trace {
 
     /// Cuts a file to a size. Where the record is full it is false, and nothing changes.
     pub(crate) fn cut(&mut self, file: u32, size: usize) -> bool
-        ensures full { self.old.limit ≤ count_of self.old → result ≡ false }
-        ensures open { count_of self.old < self.old.limit → result ≡ true }
+        ensures full { self.old.limit ≤ calls_noted self.old → result ≡ false }
+        ensures open { calls_noted self.old < self.old.limit → result ≡ true }
         ensures limit { self.new.limit ≡ self.old.limit }
-        ensures count { count_of self.new ≡ min (count_of self.old + 1) self.old.limit }
-        ensures past { (j f : ℕ) → (count_of self.old < self.old.limit → j ≤ count_of self.old)
+        ensures count { calls_noted self.new ≡ min (calls_noted self.old + 1) self.old.limit }
+        ensures past { (j f : ℕ) → (calls_noted self.old < self.old.limit → j ≤ calls_noted self.old)
             → then_of self.new j f ≡ then_of self.old j f }
         ensures made { result ≡ true
             → AtFile file (with_cut size) (now_of self.old) (now_of self.new) }
@@ -223,7 +223,7 @@ impl Trace {
     pub(crate) fn place(&mut self, file: usize, bytes: &[u8])
         requires there { file < length self.old.files.items }
         requires fits { length bytes.now ≤ self.old.room }
-        ensures count { count_of self.new ≡ count_of self.old }
+        ensures count { calls_noted self.new ≡ calls_noted self.old }
         ensures limit { self.new.limit ≡ self.old.limit }
         ensures placed { AtFile file (λ _. at_rest bytes.now) (now_of self.old) (now_of self.new) }
         ensures capacity { capacity_of self.new ≡ capacity_of self.old }
@@ -239,7 +239,7 @@ impl Trace {
     pub(crate) fn crash(&mut self, pick: Pick)
         ensures torn { (f : ℕ) → IsCrashOf pick (now_of self.old f) (bytes_of self.new f) }
         ensures rest { (f : ℕ) → now_of self.new f ≡ at_rest (bytes_of self.new f) }
-        ensures count { count_of self.new ≡ 0 }
+        ensures count { calls_noted self.new ≡ 0 }
         ensures limit { self.new.limit ≡ self.old.limit }
         ensures room { self.new.room ≡ self.old.room }
         ensures files { length self.new.files.items ≡ length self.old.files.items }

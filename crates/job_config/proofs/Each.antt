@@ -4,7 +4,7 @@ use Rattle.std.proofs.lemmas.List.{append-nil, nil_from_length}
 use Rattle.job_config.specs.declared.rows.RowFault.{RowFault}
 use Rattle.job_config.specs.declared.rows.RowFault.TheVariants.{Bad, NoMemory}
 use Rattle.job_config.specs.Asking.{Fault, Asks, ◌>>=◌, on_ok, gives, each}
-use Rattle.job_config.specs.Outcome.{Fails}
+use Rattle.job_config.specs.Outcome.{FailsRow}
 
 -- these, and then what asking gives
 abbrev pub with_front : {A : Type 0} → List A → Result (List A × List (List ℕ)) Fault → Result (List A × List (List ℕ)) Fault
@@ -51,7 +51,7 @@ rows_go_on {A = A} {B = B} front new x left rest f y asked now w first is pushed
     ∙ sym (ap (λ (xs : List A). with_front front (each xs f asked)) first) ∙ all
 
 pub rows_fail : {A B : Type 0} (front : List B) (x : A) (left rest : List A) (f : A → Asks B) (fault : RowFault) (asked : List (List ℕ)) (w : Result (List B × List (List ℕ)) Fault)
-    → left ≡ x ∷ rest → Fails fault (f x asked) → with_front front (each left f asked) ≡ w → Fails fault w
+    → left ≡ x ∷ rest → FailsRow fault (f x asked) → with_front front (each left f asked) ≡ w → FailsRow fault w
 rows_fail front x left rest f NoMemory asked w first fails all = tt
 rows_fail {A = A} front x left rest f (Bad key what) asked w first fails all =
     sym all ∙ ap (λ (xs : List A). with_front front (each xs f asked)) first ∙ each_fails front x rest f (key, what) asked fails

@@ -22,7 +22,7 @@ use Rattle.job_config.specs.Keys.{text_of, store_key, stream_key}
 use Rattle.config_values.specs.Values.{any_text, some_text, size, cut, then_number, start, own_flag, flag, priority}
 use Rattle.config_values.specs.Numbers.{number_of}
 use Rattle.job_config.specs.Stores.{store_of, is_misnamed, is_no_store_name, unless_misnamed, store_names, new_store, store_row, counted_stores, store_rows}
-use Rattle.job_config.specs.Streams.{system_of, stream_of, new_stream, on_said, stream_said, stream_row, input_of, stream_rows}
+use Rattle.job_config.specs.Streams.{system_of, stream_of, new_stream, on_said, stream_said, stream_row, input_config, stream_rows}
 use Rattle.config_values.specs.Lists.{in_order}
 use Rattle.job_config.specs.Asking.{Fault, Asks, ◌>>=◌, gives, row, each, unless}
 use Rattle.job_config.specs.Bounds.{AreRising, AreStores, IsStore, input_name, store_name}
@@ -279,17 +279,17 @@ new_names : (names : List (List ℕ)) → AllByRecursion (λ n. is_topic n ≡ t
 new_names [] all = refl
 new_names (n ∷ ns) all = cc (whole n all.0, new_names ns all.1)
 
-input_names : (streams : List Stream) → map input_name (map input_of streams) ≡ map stream_name streams
+input_names : (streams : List Stream) → map input_name (map input_config streams) ≡ map stream_name streams
 input_names [] = refl
 input_names (s ∷ ss) = ap (λ (xs : List (List ℕ)). stream_name s ∷ xs) (input_names ss)
 
-input_ranks : (streams : List Stream) → AllByRecursion HasPriority streams → AllByRecursion (λ (i : InputConfig). i.priority ≤ 1000000) (map input_of streams)
+input_ranks : (streams : List Stream) → AllByRecursion HasPriority streams → AllByRecursion (λ (i : InputConfig). i.priority ≤ 1000000) (map input_config streams)
 input_ranks [] all = tt
 input_ranks (s ∷ ss) all = (all.0, input_ranks ss all.1)
 
 -- the rows of the streams from each place on
 abbrev from_bootstrap : Props → List Stream → Asks (List InputConfig)
-from_bootstrap p e = each e (stream_row p Priority) >>= λ f. gives (map input_of f)
+from_bootstrap p e = each e (stream_row p Priority) >>= λ f. gives (map input_config f)
 
 abbrev from_reset : Props → List Stream → Asks (List InputConfig)
 from_reset p d = each d (stream_row p Bootstrap) >>= from_bootstrap p
@@ -312,8 +312,8 @@ inputs_named p names asked r all is =
     let c = through (each b.0.0 (stream_row p OwnReset) b.0.1) (from_own_reset p) r b.2 in
     let d = through (each c.0.0 (stream_row p SystemReset) c.0.1) (from_reset p) r c.2 in
     let e = through (each d.0.0 (stream_row p Bootstrap) d.0.1) (from_bootstrap p) r d.2 in
-    let f = through (each e.0.0 (stream_row p Priority) e.0.1) (λ f. gives (map input_of f)) r e.2 in
-    let same : (map input_of f.0.0, f.0.1) ≡ r = cc f.2 in
+    let f = through (each e.0.0 (stream_row p Priority) e.0.1) (λ f. gives (map input_config f)) r e.2 in
+    let same : (map input_config f.0.0, f.0.1) ≡ r = cc f.2 in
     sym (ap (λ (z : List InputConfig × List (List ℕ)). map input_name z.0) same)
     ∙ input_names f.0.0
     ∙ streams_stay p Priority e.0.0 e.0.1 f.0 f.1
@@ -333,8 +333,8 @@ inputs_rank p names asked r is =
     let c = through (each b.0.0 (stream_row p OwnReset) b.0.1) (from_own_reset p) r b.2 in
     let d = through (each c.0.0 (stream_row p SystemReset) c.0.1) (from_reset p) r c.2 in
     let e = through (each d.0.0 (stream_row p Bootstrap) d.0.1) (from_bootstrap p) r d.2 in
-    let f = through (each e.0.0 (stream_row p Priority) e.0.1) (λ f. gives (map input_of f)) r e.2 in
-    let same : (map input_of f.0.0, f.0.1) ≡ r = cc f.2 in
+    let f = through (each e.0.0 (stream_row p Priority) e.0.1) (λ f. gives (map input_config f)) r e.2 in
+    let same : (map input_config f.0.0, f.0.1) ≡ r = cc f.2 in
     let a_rank = rows_rank p OwnStart (map new_stream names) asked a.0 (new_rank names) a.1 in
     let b_rank = rows_rank p SystemStart a.0.0 a.0.1 b.0 a_rank b.1 in
     let c_rank = rows_rank p OwnReset b.0.0 b.0.1 c.0 b_rank c.1 in

@@ -9,7 +9,7 @@ use Rattle.job_config.specs.declared.streams.Stream.{Stream}
 use Rattle.job_config.specs.declared.keys.StreamSetting.{StreamSetting}
 use Rattle.job_config.specs.Keys.{stream_key}
 use Rattle.job_config.specs.Asking.{Fault, Asks, on_ok, gives, row_of, row}
-use Rattle.job_config.specs.Outcome.{Fails}
+use Rattle.job_config.specs.Outcome.{FailsRow}
 use Rattle.job_config.specs.Parts.{Puts}
 use Rattle.job_config.specs.Streams.{stream_said, stream_row}
 
@@ -19,7 +19,7 @@ row_put key new (Ok _) said asked puts = ap (λ r. row_of key r asked) puts
 row_put key new (Err what) said asked puts = ap (λ r. row_of key r asked) puts
 
 -- a fault of what comes first is one of the whole
-pub fails_first : {A B : Type 0} (fault : RowFault) (first : Result (A × List (List ℕ)) Fault) (f : A → Asks B) → Fails fault first → Fails fault (on_ok first f)
+pub fails_first : {A B : Type 0} (fault : RowFault) (first : Result (A × List (List ℕ)) Fault) (f : A → Asks B) → FailsRow fault first → FailsRow fault (on_ok first f)
 fails_first NoMemory first f fails = tt
 fails_first {A = A} (Bad key what) first f fails = ap (λ (r : Result (A × List (List ℕ)) Fault). on_ok r f) fails
 

@@ -10,7 +10,7 @@ use Rattle.props_text.specs.Pairs.{Props}
 use Rattle.config_values.specs.declared.faults.What.TheVariants.{BadName}
 use Rattle.job_config.specs.declared.rows.RowFault.{RowFault}
 use Rattle.job_config.specs.declared.rows.RowFault.TheVariants.{Bad, NoMemory}
-use Rattle.job_config.specs.Outcome.{Fails}
+use Rattle.job_config.specs.Outcome.{FailsRow}
 use Rattle.config_values.specs.Lists.{in_order}
 use Rattle.job_config.specs.Stores.{store_of, is_misnamed, unless_misnamed, store_names}
 use Rattle.job_config.specs.Parts.{with_store, PutsStore}
@@ -45,7 +45,7 @@ none_found p names h is = ap (λ o. unless_misnamed o (in_order (filter_map stor
 
 -- a misnamed key is the first
 pub names_fail : (p : Props) (i : ℕ) (key value : List ℕ) (old new : List (List ℕ)) (fault : RowFault) → Some (key, value) ≡ slice_get (map.entries p) i
-    → find is_misnamed (drop i (map.keys p)) ≡ find is_misnamed (map.keys p) → PutsStore key old new (Err fault) → Fails fault (store_names p)
+    → find is_misnamed (drop i (map.keys p)) ≡ find is_misnamed (map.keys p) → PutsStore key old new (Err fault) → FailsRow fault (store_names p)
 names_fail p i key value old new NoMemory at first put = tt
 names_fail p i key value old new (Bad k what) at first put =
     bad_found p key (sym first ∙ ap (find is_misnamed) (key_at (map.entries p) i key value at) ∙ ap (λ b. cond b (Some key) (find is_misnamed (drop (i + 1) (map.keys p)))) put.0)

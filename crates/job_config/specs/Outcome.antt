@@ -8,9 +8,9 @@ use Rattle.job_config.specs.declared.config.JobConfig.{JobConfig}
 use Rattle.job_config.specs.Asking.{Fault}
 
 -- the first bad key and what is wrong with it, or want of memory, which is free
-abbrev pub Fails : {A : Type 0} → RowFault → Result A Fault → Type 0
-Fails NoRoom r = Unit {0}
-Fails (BadRow key what) r = r ≡ Err (key, what)
+abbrev pub FailsRow : {A : Type 0} → RowFault → Result A Fault → Type 0
+FailsRow NoRoom r = Unit {0}
+FailsRow (BadRow key what) r = r ≡ Err (key, what)
 
 -- the same of a configuration's fault
 abbrev pub of_row : ConfigFault → RowFault
@@ -18,4 +18,4 @@ of_row NoMemory = NoRoom
 of_row (Bad key what) = BadRow key what
 
 abbrev pub IsFault : ConfigFault → Result JobConfig Fault → Type 0
-IsFault fault config = Fails (of_row fault) config
+IsFault fault config = FailsRow (of_row fault) config

@@ -13,17 +13,17 @@ use Rattle.job_config.specs.Stores.{store_of, is_misnamed}
 use Rattle.props_text.specs.Written.{written_text}
 use Rattle.job_config.specs.Table.{is_unread}
 use Rattle.job_config.specs.Asking.{Fault}
-use Rattle.job_config.specs.Outcome.{Fails}
+use Rattle.job_config.specs.Outcome.{FailsRow}
 
 -- What a function answered is what asking gives, unless memory ran out.
-abbrev pub Gives : {A : Type 0} → List (List ℕ) → Result A RowFault → Result (A × List (List ℕ)) Fault → Type 0
-Gives asked (Ok x) asking = asking ≡ Ok (x, asked)
-Gives asked (Err fault) asking = Fails fault asking
+abbrev pub GivesRow : {A : Type 0} → List (List ℕ) → Result A RowFault → Result (A × List (List ℕ)) Fault → Type 0
+GivesRow asked (Ok x) asking = asking ≡ Ok (x, asked)
+GivesRow asked (Err fault) asking = FailsRow fault asking
 
 -- The same of what is no asking.
 abbrev pub Answers : {A : Type 0} → Result A RowFault → Result A Fault → Type 0
 Answers (Ok x) r = r ≡ Ok x
-Answers (Err fault) r = Fails fault r
+Answers (Err fault) r = FailsRow fault r
 
 -- what a key says is put in, or refused
 abbrev pub Puts : {A : Type 0} → A → Result (Unit {0}) What → Result A What → Type 0

@@ -44,8 +44,8 @@ unfoldable pub stream_row : Props → StreamSetting → Stream → Asks Stream
 stream_row p setting s = row p (stream_key setting s.system s.stream) (stream_said setting s)
 
 -- an input; where no key says so, it begins behind its last message, and a kept offset counts
-abbrev pub input_of : Stream → InputConfig
-input_of s = record { system = s.system; stream = s.stream; fallback = unwrap_or s.start Upcoming; reset = unwrap_or s.reset false; bootstrap = s.bootstrap; priority = s.priority }
+abbrev pub input_config : Stream → InputConfig
+input_config s = record { system = s.system; stream = s.stream; fallback = unwrap_or s.start Upcoming; reset = unwrap_or s.reset false; bootstrap = s.bootstrap; priority = s.priority }
 
 -- the rows of the streams' keys, each over all inputs in order of `system.stream`
 unfoldable pub stream_rows : Props → List (List ℕ) → Asks (List InputConfig)
@@ -56,4 +56,4 @@ stream_rows p names = do
   d ← each c (stream_row p SystemReset)
   e ← each d (stream_row p Bootstrap)
   f ← each e (stream_row p Priority)
-  gives (map input_of f)
+  gives (map input_config f)

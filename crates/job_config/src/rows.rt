@@ -4,7 +4,7 @@ ghost use Rattle.job_config.specs.Keys.{text_of};
 ghost use Rattle.config_values.specs.Values.{bounded, millis, flag, class, job_name};
 ghost use Rattle.config_values.specs.Lists.{inputs, outputs, one_of};
 ghost use Rattle.job_config.specs.Asking.{row_of, row};
-ghost use Rattle.job_config.specs.Parts.{Gives};
+ghost use Rattle.job_config.specs.Parts.{GivesRow};
 
 use crate::keys::{Asked, Key, Setting};
 use config_values::shipped::Shipped;
@@ -59,7 +59,7 @@ pub(crate) fn answer<T: Drop>(
     key: Key,
     read: Result<T, What>,
 ) -> Result<T, RowFault>
-    ensures { Gives asked.new.items result (row_of key read asked.old.items) }
+    ensures { GivesRow asked.new.items result (row_of key read asked.old.items) }
 {
     match read {
         Ok(value) => {
@@ -82,7 +82,7 @@ pub(crate) fn number(
     high: u32,
 ) -> Result<u32, RowFault>
     requires { low ≤ high }
-    ensures { Gives asked.new.items result
+    ensures { GivesRow asked.new.items result
         (row pairs.now (text_of setting) (bounded default low high) asked.old.items) }
 {
     let key = Key::of(alloc, setting)?;
@@ -99,7 +99,7 @@ pub(crate) fn millis(
     setting: Setting,
     default: Option<u64>,
 ) -> Result<Option<u64>, RowFault>
-    ensures { Gives asked.new.items result (row pairs.now (text_of setting) (millis default)
+    ensures { GivesRow asked.new.items result (row pairs.now (text_of setting) (millis default)
         asked.old.items) }
 {
     let key = Key::of(alloc, setting)?;
@@ -114,7 +114,7 @@ pub(crate) fn flag(
     asked: &mut Asked,
     setting: Setting,
 ) -> Result<bool, RowFault>
-    ensures { Gives asked.new.items result (row pairs.now (text_of setting) flag asked.old.items) }
+    ensures { GivesRow asked.new.items result (row pairs.now (text_of setting) flag asked.old.items) }
 {
     let key = Key::of(alloc, setting)?;
     let read = values::flag(key.value_in(pairs));
@@ -129,7 +129,7 @@ pub(crate) fn class(
     asked: &mut Asked,
     setting: Setting,
 ) -> Result<Shipped, RowFault>
-    ensures { Gives asked.new.items result (row pairs.now (text_of setting) class asked.old.items) }
+    ensures { GivesRow asked.new.items result (row pairs.now (text_of setting) class asked.old.items) }
 {
     let key = Key::of(alloc, setting)?;
     let read = values::class(key.value_in(pairs));
@@ -144,7 +144,7 @@ pub(crate) fn job_name(
     asked: &mut Asked,
     setting: Setting,
 ) -> Result<Bin, RowFault>
-    ensures { Gives asked.new.items result
+    ensures { GivesRow asked.new.items result
         (row pairs.now (text_of setting) job_name asked.old.items) }
 {
     let key = Key::of(alloc, setting)?;
@@ -161,7 +161,7 @@ pub(crate) fn inputs(
     setting: Setting,
     most: usize,
 ) -> Result<Items<Bin>, RowFault>
-    ensures { Gives asked.new.items result
+    ensures { GivesRow asked.new.items result
         (row pairs.now (text_of setting) (inputs most) asked.old.items) }
 {
     let key = Key::of(alloc, setting)?;
@@ -178,7 +178,7 @@ pub(crate) fn outputs(
     setting: Setting,
     most: usize,
 ) -> Result<Items<Bin>, RowFault>
-    ensures { Gives asked.new.items result
+    ensures { GivesRow asked.new.items result
         (row pairs.now (text_of setting) (outputs most) asked.old.items) }
 {
     let key = Key::of(alloc, setting)?;
@@ -195,7 +195,7 @@ pub(crate) fn one_of(
     setting: Setting,
     names: &[Bin],
 ) -> Result<Bin, RowFault>
-    ensures { Gives asked.new.items result (row pairs.now (text_of setting) (one_of names.now)
+    ensures { GivesRow asked.new.items result (row pairs.now (text_of setting) (one_of names.now)
         asked.old.items) }
 {
     let key = Key::of(alloc, setting)?;

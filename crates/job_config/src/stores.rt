@@ -4,7 +4,7 @@ ghost use Rattle.std.specs.BTreeSet.{keys};
 ghost use Rattle.samza_model.specs.Names.{is_system};
 ghost use Rattle.job_config.specs.Stores.{behind, before, named_in, store_of, store_names, counted_stores, new_store, store_row, store_rows};
 ghost use Rattle.job_config.specs.Asking.{each};
-ghost use Rattle.job_config.specs.Parts.{Gives, Answers, PutsStore};
+ghost use Rattle.job_config.specs.Parts.{GivesRow, Answers, PutsStore};
 
 use crate::keys::{Asked, Key, Setting, StoreSetting};
 use crate::rows::{RowFault, answer};
@@ -141,7 +141,7 @@ fn store_row(
     setting: StoreSetting,
     store: StoreSetup,
 ) -> Result<StoreSetup, RowFault>
-    ensures { Gives asked.new.items result (store_row pairs.now setting store asked.old.items) }
+    ensures { GivesRow asked.new.items result (store_row pairs.now setting store asked.old.items) }
 {
     let key = Key::of_store(alloc, setting, store.name.bytes())?;
     let text = key.value_in(pairs);
@@ -173,7 +173,7 @@ fn store_row_of_each(
     setting: StoreSetting,
     stores: Items<StoreSetup>,
 ) -> Result<Items<StoreSetup>, RowFault>
-    ensures { Gives asked.new.items result
+    ensures { GivesRow asked.new.items result
         (each stores (store_row pairs.now setting) asked.old.items) }
 {
     let mut made = Vec::new(alloc);
@@ -193,7 +193,7 @@ pub(crate) fn store_rows(
     pairs: &Pairs,
     asked: &mut Asked,
 ) -> Result<Items<StoreSetup>, RowFault>
-    ensures { Gives asked.new.items result (store_rows pairs.now asked.old.items) }
+    ensures { GivesRow asked.new.items result (store_rows pairs.now asked.old.items) }
 {
     let names = store_names(alloc, pairs)?;
     let stores = new_stores(alloc, names)?;

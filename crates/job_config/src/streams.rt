@@ -1,9 +1,9 @@
 // The inputs of a configuration, and the rows of their streams' keys.
 ghost use Rattle.std.specs.Prelude.{◌≡◌, ◌==◌, ◌≤◌, IfOk, map, length, drop, option_copied};
 ghost use Rattle.std.specs.List.{position_or_len};
-ghost use Rattle.job_config.specs.Streams.{system_of, stream_of, new_stream, stream_said, stream_row, input_of, stream_rows};
+ghost use Rattle.job_config.specs.Streams.{system_of, stream_of, new_stream, stream_said, stream_row, input_config, stream_rows};
 ghost use Rattle.job_config.specs.Asking.{each};
-ghost use Rattle.job_config.specs.Parts.{Gives, Puts};
+ghost use Rattle.job_config.specs.Parts.{GivesRow, Puts};
 
 use crate::config::InputConfig;
 use crate::keys::{Asked, Key, StreamSetting};
@@ -100,7 +100,7 @@ fn stream_row(
     setting: StreamSetting,
     mut stream: Stream,
 ) -> Result<Stream, RowFault>
-    ensures { Gives asked.new.items result (stream_row pairs.now setting stream asked.old.items) }
+    ensures { GivesRow asked.new.items result (stream_row pairs.now setting stream asked.old.items) }
 {
     let key = Key::of_stream(alloc, setting, stream.system.bytes(), stream.stream.bytes())?;
     let said = put_said(setting, key.value_in(pairs), &mut stream);
@@ -116,7 +116,7 @@ fn stream_row_of_each(
     setting: StreamSetting,
     streams: Items<Stream>,
 ) -> Result<Items<Stream>, RowFault>
-    ensures { Gives asked.new.items result
+    ensures { GivesRow asked.new.items result
         (each streams (stream_row pairs.now setting) asked.old.items) }
 {
     let mut made = Vec::new(alloc);
@@ -130,8 +130,8 @@ fn stream_row_of_each(
 }
 
 /// An input; where no key said so, it begins behind its last message, and a kept offset counts.
-fn input_of(stream: Stream) -> InputConfig
-    ensures { result ≡ input_of stream }
+fn input_config(stream: Stream) -> InputConfig
+    ensures { result ≡ input_config stream }
 {
     InputConfig {
         system: stream.system,
@@ -144,11 +144,11 @@ fn input_of(stream: Stream) -> InputConfig
 }
 
 fn inputs_of(alloc: Global, streams: Items<Stream>) -> Result<Items<InputConfig>, NoMemory>
-    ensures { IfOk result (λ inputs. inputs ≡ map input_of streams) }
+    ensures { IfOk result (λ inputs. inputs ≡ map input_config streams) }
 {
     let mut inputs = Vec::new(alloc);
     for stream in streams.into_vec() {
-        inputs.push(input_of(stream))?;
+        inputs.push(input_config(stream))?;
     }
     Ok(Items::from_vec(inputs))
 }
@@ -161,7 +161,7 @@ pub(crate) fn stream_rows(
     asked: &mut Asked,
     names: &[Bin],
 ) -> Result<Items<InputConfig>, RowFault>
-    ensures { Gives asked.new.items result (stream_rows pairs.now names.now asked.old.items) }
+    ensures { GivesRow asked.new.items result (stream_rows pairs.now names.now asked.old.items) }
 {
     let streams = new_streams(alloc, names)?;
     let streams = stream_row_of_each(alloc, pairs, asked, StreamSetting::OwnStart, streams)?;

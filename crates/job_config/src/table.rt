@@ -1,6 +1,6 @@
 // The table of a job's configuration.
 ghost use Rattle.std.specs.Prelude.{IfOk};
-ghost use Rattle.job_config.specs.Parts.{Gives};
+ghost use Rattle.job_config.specs.Parts.{GivesRow};
 ghost use Rattle.job_config.specs.Bounds.{IsBounded};
 ghost use Rattle.job_config.specs.Limits.{limit_rows};
 ghost use Rattle.job_config.specs.Table.{class_row, table};
@@ -24,7 +24,7 @@ fn class_row(
     names: &[Bin],
     shipped: Shipped,
 ) -> Result<Class, RowFault>
-    ensures { Gives asked.new.items result (class_row pairs.now names.now shipped asked.old.items) }
+    ensures { GivesRow asked.new.items result (class_row pairs.now names.now shipped asked.old.items) }
 {
     match shipped {
         Shipped::WordCount => Ok(Class::WordCount),
@@ -51,7 +51,7 @@ struct Limits {
 
 #[tactic(auto, unfolding(crate::specs::Limits::limit_rows))]
 fn limit_rows(alloc: Global, pairs: &Pairs, asked: &mut Asked) -> Result<Limits, RowFault>
-    ensures { Gives asked.new.items result (limit_rows pairs.now asked.old.items) }
+    ensures { GivesRow asked.new.items result (limit_rows pairs.now asked.old.items) }
 {
     let containers = rows::number(alloc, pairs, asked, Setting::Containers, 1, 1, 256)?;
     let workers = rows::number(alloc, pairs, asked, Setting::Workers, 0, 0, 32)?;
@@ -74,7 +74,7 @@ fn limit_rows(alloc: Global, pairs: &Pairs, asked: &mut Asked) -> Result<Limits,
 /// The rows of the table, one after another.
 #[tactic(auto, unfolding(crate::specs::Table::table))]
 pub(crate) fn table(alloc: Global, pairs: &Pairs, asked: &mut Asked) -> Result<JobConfig, RowFault>
-    ensures rows { Gives asked.new.items result (table pairs.now asked.old.items) }
+    ensures rows { GivesRow asked.new.items result (table pairs.now asked.old.items) }
     ensures bounded { IfOk result IsBounded }
 {
     let job = rows::job_name(alloc, pairs, asked, Setting::JobName)?;

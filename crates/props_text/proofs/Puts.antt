@@ -14,7 +14,7 @@ use Rattle.props_text.specs.declared.faults.PropsFault.{PropsFault}
 use Rattle.props_text.specs.declared.faults.PropsFault.TheVariants.{BadEscape, NoMemory}
 use Rattle.props_text.specs.Pairs.{Props, pair_of, pairs_onto, ◌>>=◌}
 use Rattle.props_text.specs.Sorted.{rises, entries_of}
-use Rattle.props_text.specs.Outcome.{Fails}
+use Rattle.props_text.specs.Outcome.{FailsProps}
 use Rattle.props_text.specs.Steps.{map_entries}
 
 one_of : {A B : Type 0} (f : A → B) (r : Ordering) (x y z : A) → f (match_ordering r x y z) ≡ by_order r (f x) (f y) (f z)
@@ -47,8 +47,8 @@ puts_pair (p ∷ ps) es fs k v some is put_in m e = (
   λ ls. ap (λ r. r >>= λ pair. pairs_onto (insert m pair.0 pair.1) ls) is,
 )
 
-pub puts_fails : (fault : PropsFault) (line : List Placed) → (length line ≡ 0 → ⊥) → Fails fault (pair_of line)
-    → (m : Props) (ls : List (List Placed)) → Fails fault (pairs_onto m (line ∷ ls))
+pub puts_fails : (fault : PropsFault) (line : List Placed) → (length line ≡ 0 → ⊥) → FailsProps fault (pair_of line)
+    → (m : Props) (ls : List (List Placed)) → FailsProps fault (pairs_onto m (line ∷ ls))
 unfolding pairs_onto
 puts_fails fault [] some fails m ls = absurd (some refl)
 puts_fails NoMemory (p ∷ ps) some fails m ls = tt
@@ -74,11 +74,11 @@ pub map_read : (read : Result Props ℕ) (es : List (List ℕ × List ℕ)) (m :
 map_read (Ok n) es m e is = let same : entries n ≡ entries m = cc in ap Ok (same_entries_map n m same)
 map_read (Err n) es m e is = absurd (cc)
 
-pub fault_read : (fault : PropsFault) (read : Result Props ℕ) → Fails fault (map_entries read) → Fails fault read
+pub fault_read : (fault : PropsFault) (read : Result Props ℕ) → FailsProps fault (map_entries read) → FailsProps fault read
 fault_read NoMemory read e = tt
 fault_read (BadEscape n) (Ok m) e = absurd (cc)
 fault_read (BadEscape n) (Err k) e = let same : k ≡ n = cc in ap Err same
 
-pub fault_entries : (fault : PropsFault) (read : Result Props ℕ) → Fails fault read → Fails fault (map_entries read)
+pub fault_entries : (fault : PropsFault) (read : Result Props ℕ) → FailsProps fault read → FailsProps fault (map_entries read)
 fault_entries NoMemory read e = tt
 fault_entries (BadEscape n) read e = ap map_entries e

@@ -9,7 +9,7 @@ use Rattle.props_text.specs.declared.faults.PropsFault.{PropsFault}
 use Rattle.props_text.specs.Lines.{natural_lines}
 use Rattle.props_text.specs.Logical.{logical_lines}
 use Rattle.props_text.specs.Pairs.{Props, pairs_onto, props_of}
-use Rattle.props_text.specs.Outcome.{Fails}
+use Rattle.props_text.specs.Outcome.{FailsProps}
 use Rattle.props_text.specs.Steps.{lines_behind, Puts, PutsLast, Takes, map_entries, entries_read}
 use Rattle.props_text.proofs.Puts.{no_lines, fault_entries}
 
@@ -81,11 +81,11 @@ read_end text rest begun n old new u is puts r =
     let k = puts r.0 r.1 in
     ap map_entries (sym r.2 ∙ ap (λ o. pairs_onto r.0 (logical_lines begun n (lines_left o))) is ∙ ap (pairs_onto r.0) (last_line begun n) ∙ k.2) ∙ ap Ok k.1
 
-along : (fault : PropsFault) (a b : Result Props ℕ) → a ≡ b → Fails fault a → Fails fault b
-along fault a b e h = subst (Fails fault) e h
+along : (fault : PropsFault) (a b : Result Props ℕ) → a ≡ b → FailsProps fault a → FailsProps fault b
+along fault a b e h = subst (FailsProps fault) e h
 
 pub read_fails : (text : List ℕ) (rest : Option (List ℕ)) (begun : Option (List Placed)) (n : ℕ) (old : List (List ℕ × List ℕ)) (fault : PropsFault)
-    → rest ≡ None → ((m : Props) → entries m ≡ old → Fails fault (pairs_onto m (option_to_list begun))) → Reads text rest begun n old → Fails fault (entries_read text)
+    → rest ≡ None → ((m : Props) → entries m ≡ old → FailsProps fault (pairs_onto m (option_to_list begun))) → Reads text rest begun n old → FailsProps fault (entries_read text)
 read_fails text rest begun n old fault is puts r =
     fault_entries fault (props_of text) (along fault _ _
     (ap (pairs_onto r.0) (sym (last_line begun n)) ∙ ap (λ o. pairs_onto r.0 (logical_lines begun n (lines_left o))) (sym is) ∙ r.2) (puts r.0 r.1))

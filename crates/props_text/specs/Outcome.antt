@@ -4,10 +4,10 @@ use Rattle.props_text.specs.declared.faults.PropsFault.{PropsFault}
 use Rattle.props_text.specs.declared.faults.PropsFault.TheVariants.{BadEscape, NoMemory}
 
 -- a malformed escape in this line, or want of memory, which is free
-abbrev pub Fails : {Y : Type 0} → PropsFault → Result Y ℕ → Type 0
-Fails NoMemory read = Unit {0}
-Fails (BadEscape line) read = read ≡ Err line
+abbrev pub FailsProps : {Y : Type 0} → PropsFault → Result Y ℕ → Type 0
+FailsProps NoMemory read = Unit {0}
+FailsProps (BadEscape line) read = read ≡ Err line
 
-abbrev pub Gives : {X Y : Type 0} → (X → Y) → Result X PropsFault → Result Y ℕ → Type 0
-Gives view (Ok x) read = read ≡ Ok (view x)
-Gives view (Err e) read = Fails e read
+abbrev pub GivesProps : {X Y : Type 0} → (X → Y) → Result X PropsFault → Result Y ℕ → Type 0
+GivesProps view (Ok x) read = read ≡ Ok (view x)
+GivesProps view (Err e) read = FailsProps e read

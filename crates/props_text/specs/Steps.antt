@@ -7,7 +7,7 @@ use Rattle.props_text.specs.declared.join.Joined.TheVariants.{PassedOver, GoesOn
 use Rattle.props_text.specs.declared.faults.PropsFault.{PropsFault}
 use Rattle.props_text.specs.Logical.{logical_lines}
 use Rattle.props_text.specs.Pairs.{Props, with_unit, unescaped, pairs_onto, props_of}
-use Rattle.props_text.specs.Outcome.{Fails}
+use Rattle.props_text.specs.Outcome.{FailsProps}
 
 -- the units of a text, of which this is the first and what is behind it
 abbrev pub units_behind : Option (ℕ × List Placed) → Result (List ℕ) ℕ
@@ -27,18 +27,18 @@ map_ok f (Err e) = Err e
 -- The map m has these entries. Then the one that holds after the line has those.
 abbrev pub Puts : List Placed → List (List ℕ × List ℕ) → List (List ℕ × List ℕ) → Result (Unit {0}) PropsFault → Type 0
 Puts line old new (Ok _) = (m : Props) → entries m ≡ old → (n : Props) × (entries n ≡ new) × ((ls : List (List Placed)) → pairs_onto m (line ∷ ls) ≡ pairs_onto n ls)
-Puts line old new (Err fault) = (m : Props) → entries m ≡ old → (ls : List (List Placed)) → Fails fault (pairs_onto m (line ∷ ls))
+Puts line old new (Err fault) = (m : Props) → entries m ≡ old → (ls : List (List Placed)) → FailsProps fault (pairs_onto m (line ∷ ls))
 
 -- The same of what goes on at the end of the text.
 abbrev pub PutsLast : Option (List Placed) → List (List ℕ × List ℕ) → List (List ℕ × List ℕ) → Result (Unit {0}) PropsFault → Type 0
 PutsLast begun old new (Ok _) = (m : Props) → entries m ≡ old → (n : Props) × (entries n ≡ new) × (pairs_onto m (option_to_list begun) ≡ Ok n)
-PutsLast begun old new (Err fault) = (m : Props) → entries m ≡ old → Fails fault (pairs_onto m (option_to_list begun))
+PutsLast begun old new (Err fault) = (m : Props) → entries m ≡ old → FailsProps fault (pairs_onto m (option_to_list begun))
 
 -- The same, where a natural line with the number n is joined to what goes on before it.
 abbrev pub Takes : Option (List Placed) → ℕ → List ℕ → List (List ℕ × List ℕ) → List (List ℕ × List ℕ) → Result (Option (List Placed)) PropsFault → Type 0
 Takes begun n line old new (Ok after) = (m : Props) → entries m ≡ old → (k : Props) × (entries k ≡ new)
     × ((ls : List (List ℕ)) → pairs_onto m (logical_lines begun n (line ∷ ls)) ≡ pairs_onto k (logical_lines after (n + 1) ls))
-Takes begun n line old new (Err fault) = (m : Props) → entries m ≡ old → (ls : List (List ℕ)) → Fails fault (pairs_onto m (logical_lines begun n (line ∷ ls)))
+Takes begun n line old new (Err fault) = (m : Props) → entries m ≡ old → (ls : List (List ℕ)) → FailsProps fault (pairs_onto m (logical_lines begun n (line ∷ ls)))
 
 abbrev pub map_entries : Result Props ℕ → Result (List (List ℕ × List ℕ)) ℕ
 map_entries (Ok m) = Ok (entries m)

@@ -1,7 +1,7 @@
 // Escapes: the units that a text stands for.
 ghost use Rattle.std.specs.Prelude.{◌≡◌, ◌<◌, List, [], ℕ, Ok, Err, Some, length, MatchOption, MatchResult, IfOk, IfSome};
 ghost use Rattle.props_text.specs.Pairs.{hex_digit, hex_unit, escape_of, unescaped};
-ghost use Rattle.props_text.specs.Outcome.{Gives};
+ghost use Rattle.props_text.specs.Outcome.{GivesProps};
 ghost use Rattle.props_text.specs.Steps.{units_behind};
 
 use crate::PropsFault;
@@ -55,7 +55,7 @@ fn escape_of(unit: u8) -> u8
 fn next_unit(text: &[Placed]) -> Result<Option<(u16, &[Placed])>, PropsFault>
     ensures unit { MatchResult result (λ next. MatchOption next (unescaped 0 text.now ≡ Ok [])
         (λ p. unescaped 0 text.now ≡ units_behind (Some (p.0, p.1.now))))
-        (λ fault. Gives (λ (x : List ℕ). x) (Err fault) (unescaped 0 text.now)) }
+        (λ fault. GivesProps (λ (x : List ℕ). x) (Err fault) (unescaped 0 text.now)) }
     ensures shorter { IfOk result (λ next. IfSome next (λ p. length p.1.now < length text.now)) }
 {
     match text {
@@ -84,7 +84,7 @@ fn next_unit(text: &[Placed]) -> Result<Option<(u16, &[Placed])>, PropsFault>
 
 /// The units that a part of a logical line stands for.
 pub fn unescaped(alloc: Global, text: &[Placed]) -> Result<Vec<u16>, PropsFault>
-    ensures { Gives (λ v. v.items) result (unescaped 0 text.now) }
+    ensures { GivesProps (λ v. v.items) result (unescaped 0 text.now) }
 {
     let mut units = Vec::new(alloc);
     let mut rest = text;

@@ -3,7 +3,7 @@ ghost use Rattle.std.specs.Prelude.{◌≡◌, ◌≤◌, false, length};
 ghost use Rattle.std.specs.List.{prefix_len};
 ghost use Rattle.props_text.specs.Lines.{is_white};
 ghost use Rattle.props_text.specs.Pairs.{is_mark, ends_key, escapes_next, key_len, skip_blank, skip_mark, pair_of};
-ghost use Rattle.props_text.specs.Outcome.{Gives};
+ghost use Rattle.props_text.specs.Outcome.{GivesProps};
 
 use crate::PropsFault;
 use crate::escapes::unescaped;
@@ -73,7 +73,7 @@ fn skip_mark(text: &[Placed]) -> &[Placed]
 /// The key and the value of a logical line.
 #[tactic(auto, unfolding(crate::specs::Pairs::pair_of))]
 pub fn pair_of(alloc: Global, line: &[Placed]) -> Result<(Vec<u16>, Vec<u16>), PropsFault>
-    ensures { Gives (λ p. (p.0.items, p.1.items)) result (pair_of line.now) }
+    ensures { GivesProps (λ p. (p.0.items, p.1.items)) result (pair_of line.now) }
 {
     let len = key_len(line);
     let (key, rest) = line.split_at(len);

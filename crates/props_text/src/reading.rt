@@ -1,7 +1,7 @@
 // Reading a text: its natural lines are joined, and the pair of each logical line is put into a tree.
 ghost use Rattle.std.specs.Prelude.{◌≡◌, Ok, IfOk, IfErr, option_map};
 ghost use Rattle.props_text.specs.Pairs.{props_of};
-ghost use Rattle.props_text.specs.Outcome.{Fails, Gives};
+ghost use Rattle.props_text.specs.Outcome.{FailsProps, GivesProps};
 ghost use Rattle.props_text.specs.Sorted.{entries_of};
 ghost use Rattle.props_text.specs.Steps.{Puts, PutsLast, Takes, map_ok, entries_read};
 
@@ -62,7 +62,7 @@ fn put_last(tree: &mut Tree, alloc: Global, begun: Option<Vec<Placed>>) -> Resul
 
 /// Puts the pairs of the natural lines of a text into a tree.
 fn read_tree(alloc: Global, text: &[u8]) -> Result<Tree, PropsFault>
-    ensures { Gives (λ tree. entries_of tree.entries) result (entries_read text.now) }
+    ensures { GivesProps (λ tree. entries_of tree.entries) result (entries_read text.now) }
 {
     let mut tree = BTreeMap::new(alloc);
     let mut rest = Some(text);
@@ -82,7 +82,7 @@ fn read_tree(alloc: Global, text: &[u8]) -> Result<Tree, PropsFault>
 /// a pair that a later one replaces, with the natural line of the first one's backslash, from 1.
 pub fn read(alloc: Global, text: &[u8]) -> Result<Pairs, PropsFault>
     ensures pairs { IfOk result (λ pairs. props_of text.now ≡ Ok pairs) }
-    ensures fault { IfErr result (λ fault. Fails fault (props_of text.now)) }
+    ensures fault { IfErr result (λ fault. FailsProps fault (props_of text.now)) }
 {
     let tree = read_tree(alloc, text)?;
     Ok(Pairs::from_tree(alloc, tree)?)

@@ -7,7 +7,7 @@ use Rattle.std.proofs.lemmas.Slice.Eq.{slice_eq-Decides}
 use Rattle.std.proofs.lemmas.Bool.Decides.{Decides-eqb}
 use Rattle.std.proofs.lemmas.Fmt.{decimal_is_IsNumeral, parse-decimal, IsAscii-decimal}
 use Rattle.std.proofs.lemmas.Str.{IsUtf8-from_ascii}
-use Rattle.shipped_jobs.specs.WordCount.{count_of, count_end, is_text}
+use Rattle.shipped_jobs.specs.WordCount.{count_spelled, count_end, is_text}
 
 -- what a text spells: its only number, or none
 abbrev pub SpellsAtMost : List ℕ → Option ℕ → Type 0
@@ -31,7 +31,7 @@ second_true true b h = h
 second_true false b h = absurd (true≢false (sym h))
 
 -- a count is what its spelling stands for
-pub count_of-decimal : (text : List ℕ) (n : ℕ) → n < count_end → decimal n ≡ text → Some n ≡ count_of text
+pub count_of-decimal : (text : List ℕ) (n : ℕ) → n < count_end → decimal n ≡ text → Some n ≡ count_spelled text
 count_of-decimal text n low is =
     let value : digits_value 10 text ≡ n = ap (digits_value 10) (sym is) ∙ (decimal_is_IsNumeral n (omega arith)).1 in
     let test : (nat_lt (digits_value 10 text) count_end && is_text (decimal (digits_value 10 text)) text) ≡ true =
@@ -39,7 +39,7 @@ count_of-decimal text n low is =
     sym (ap (λ b. cond b (Some (digits_value 10 text)) None) test ∙ ap Some value)
 
 -- and what is no count's spelling stands for none
-pub count_of-none : (text : List ℕ) → ((n : ℕ) → n < count_end → decimal n ≡ text → ⊥) → None ≡ count_of text
+pub count_of-none : (text : List ℕ) → ((n : ℕ) → n < count_end → decimal n ≡ text → ⊥) → None ≡ count_spelled text
 count_of-none text none = elim (nat_lt (digits_value 10 text) count_end && is_text (decimal (digits_value 10 text)) text)
     as (λ b. (nat_lt (digits_value 10 text) count_end && is_text (decimal (digits_value 10 text)) text) ≡ b → None ≡ cond b (Some (digits_value 10 text)) None) [
       | true ↦ λ h. absurd (none (digits_value 10 text) (ltb-true _ _ (first_true _ _ h)) (text_from_test _ _ (second_true _ _ h)))

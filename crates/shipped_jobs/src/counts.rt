@@ -1,14 +1,14 @@
 // Counts as texts.
 ghost use Rattle.std.specs.Prelude.{◌≡◌, ◌<◌, ◌-◌, ◌^◌, ℕ, IfOk, IfSome, MatchOption, decimal};
-ghost use Rattle.shipped_jobs.specs.WordCount.{count_of};
+ghost use Rattle.shipped_jobs.specs.WordCount.{count_spelled};
 
 use samza_model::{Bin, NoMemory};
 use std::alloc::Global;
 use std::str::from_utf8;
 
 /// The count that the text spells in decimal without leading zeros. None where it spells none, or 2^64 - 1 or more.
-pub(crate) fn count_of(alloc: Global, text: &[u8]) -> Result<Option<u64>, NoMemory>
-    ensures value { IfOk result (λ count. count ≡ count_of text.now) }
+pub(crate) fn count_spelled(alloc: Global, text: &[u8]) -> Result<Option<u64>, NoMemory>
+    ensures value { IfOk result (λ count. count ≡ count_spelled text.now) }
     ensures below { IfOk result (λ count. IfSome count (λ n. n < 2 ^ 64 - 1)) }
 {
     let Some(number) = number_in(text) else {

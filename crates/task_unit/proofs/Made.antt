@@ -13,7 +13,7 @@ use Rattle.kv_store.specs.Tracked.{Tracked, with_change, AgreesOnClean, no_keys}
 use Rattle.kv_store.proofs.Tracking.{AgreesOnClean-more}
 use Rattle.unit_logs.specs.Held.{Held, tracked_at, contents_of, state_of}
 use Rattle.unit_logs.proofs.Holding.{content_at}
-use Rattle.task_unit.specs.Acting.{with_stored, with_sent, KeepsClean}
+use Rattle.task_unit.specs.Acting.{with_stored, held_with_sent, KeepsClean}
 
 pub always : {T E P : Type 0} (r : Result T E) → P → OnOk r P
 always (Ok x) p = p
@@ -40,7 +40,7 @@ pub deleted : (h : Held) (i : ℕ) (key : List ℕ) → i < length h.stores → 
 unfolding changed
 deleted h i key lt = λ k. record { stores = stored_contents h.stores i key None lt k; sent = h.unsent }
 
-pub sent : (h : Held) (j : ℕ) (body : Record) → state_of (with_sent h j body) ≡ changed (state_of h) (Send j body)
+pub sent : (h : Held) (j : ℕ) (body : Record) → state_of (held_with_sent h j body) ≡ changed (state_of h) (Send j body)
 unfolding changed
 sent h j body = refl
 

@@ -6,7 +6,7 @@ use Rattle.samza_model.specs.declared.messages.Record.{Record}
 use Rattle.kv_store.specs.Tracked.{Tracked, Reversal, IsDirty, undone, no_keys}
 use Rattle.task_unit.specs.declared.acting.Undone.{Undone}
 use Rattle.task_unit.specs.declared.acting.Undone.TheVariants.{Changed, Sent}
-use Rattle.task_unit.specs.Acting.{with_sent}
+use Rattle.task_unit.specs.Acting.{held_with_sent}
 use Rattle.task_unit.specs.Held.{taken_back, MayTake, LeadsTo}
 use Rattle.unit_logs.specs.Held.{Held, tracked_at}
 use Rattle.samza_model.specs.Content.{sent_at, nothing_stored}
@@ -39,10 +39,10 @@ store_back h i t u lt is =
     set-set stores i t (undone (get_or (set stores i t) i d) u) ∙ ap (λ (x : Tracked). set stores i x) (ap (λ (x : Tracked). undone x u) at ∙ is) ∙ set-get_or stores i d in
     λ k. record { stores = whole k; unsent = h.unsent; cleared = h.cleared }
 
-pub sent_may : (h : Held) (j : ℕ) (r : Record) → j < length h.unsent → MayTake (with_sent h j r) (Sent j)
+pub sent_may : (h : Held) (j : ℕ) (r : Record) → j < length h.unsent → MayTake (held_with_sent h j r) (Sent j)
 sent_may h j r lt = subst (λ n. j < n) (sym (length-set h.unsent j (sent_at h.unsent j ++ r ∷ []))) lt
 
-pub sent_back : (h : Held) (j : ℕ) (r : Record) → j < length h.unsent → taken_back (with_sent h j r) (Sent j) ≡ h
+pub sent_back : (h : Held) (j : ℕ) (r : Record) → j < length h.unsent → taken_back (held_with_sent h j r) (Sent j) ≡ h
 sent_back h j r lt =
     let unsent = h.unsent in
     let l = sent_at unsent j in

@@ -29,8 +29,8 @@ abbrev pub with_stored : Held → ℕ → List ℕ → Option (List ℕ) → Hel
 with_stored h store key value = record { stores = slice_set h.stores store (with_change (tracked_at h.stores store) key value); unsent = h.unsent; cleared = h.cleared }
 
 -- a record sent to an output
-abbrev pub with_sent : Held → ℕ → Record → Held
-with_sent h output body = record { stores = h.stores; unsent = slice_set h.unsent output (sent_at h.unsent output ++ body ∷ []); cleared = h.cleared }
+abbrev pub held_with_sent : Held → ℕ → Record → Held
+held_with_sent h output body = record { stores = h.stores; unsent = slice_set h.unsent output (sent_at h.unsent output ++ body ∷ []); cleared = h.cleared }
 
 -- the dirty keys of the i-th store
 abbrev pub dirty_at : Held → ℕ → Keys

@@ -6,7 +6,7 @@ ghost use Rattle.samza_model.specs.Content.{changed, answer_of, found, found_pai
 ghost use Rattle.samza_model.specs.Limits.{act_fits, key_fits, key_limit, value_fits, value_limit, IsWithinLimits};
 ghost use Rattle.samza_model.specs.declared.acts.Act.{Act as ActValue};
 ghost use Rattle.samza_model.specs.Runs.{End, end_at, run_on, runs};
-ghost use Rattle.task_unit.specs.Acting.{held, undos_of, GoesBack, with_stored, with_sent, SameSizes, KeepsClean, IsTouched, AreTouched, end_seen};
+ghost use Rattle.task_unit.specs.Acting.{held, undos_of, GoesBack, with_stored, held_with_sent, SameSizes, KeepsClean, IsTouched, AreTouched, end_seen};
 ghost use Rattle.unit_logs.specs.Held.{IsSized, Held, state_of, tracked_at};
 ghost use Rattle.task_unit.specs.Touched.{acts_of};
 ghost use Rattle.samza_model.specs.declared.turns.Why.{Why};
@@ -95,7 +95,7 @@ impl Holdings {
         requires output { output < length (held self.old).unsent }
         requires limits { IsWithinLimits body }
         ensures held { IfOk result (λ a. (a ≡ Answer.Noted)
-            × (held self.new ≡ with_sent (held self.old) output body)) }
+            × (held self.new ≡ held_with_sent (held self.old) output body)) }
         ensures err { OnErr result (held self.new ≡ held self.old) }
         ensures back { GoesBack self.old self.new }
     {

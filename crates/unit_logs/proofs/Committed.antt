@@ -20,7 +20,7 @@ use Rattle.unit_logs.specs.Planned.{PlansCommit}
 use Rattle.restore_trim.specs.Standing.{IsOpenAt}
 use Rattle.restore_trim.proofs.Growing.{open_has as open_frames}
 use Rattle.unit_logs.specs.Standing.{MarkStands, OnDisk}
-use Rattle.unit_logs.specs.Written.{Follows, StandOpen}
+use Rattle.unit_logs.specs.Written.{AreWritten, StandOpen}
 use Rattle.unit_logs.proofs.Holding.{content_at}
 
 -- the records of a log that is open are those of its file
@@ -40,7 +40,7 @@ pub record StoreMade (reads : Image) (images : Image → Type 0) (file count : �
 
 module _ (s : Setup) (reads reads' : Image) (images images' : Image → Type 0) (logs logs' : Logs) (plan : Plan) (mark : Option Checkpoint) (next : ℕ) (made : Checkpoint) (h : Held)
     (on : OnDisk reads images s logs mark h)
-    (follows : Follows reads images reads' images' logs logs' plan)
+    (follows : AreWritten reads images reads' images' logs logs' plan)
     (plans : PlansCommit s logs h next plan made)
     (changelogs_are : length logs.changelogs.items ≡ length s.stores)
     (outputs_are : length logs.outputs.items ≡ length s.outputs)

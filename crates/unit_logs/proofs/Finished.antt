@@ -15,7 +15,7 @@ use Rattle.unit_logs.specs.Crashes.{TaskFrames, PlanRecords, StandWith, IsPlanOf
 use Rattle.unit_logs.specs.Held.{Held, IsSized, state_of, unlogged_of}
 use Rattle.unit_logs.specs.Planned.{PlansCommit}
 use Rattle.unit_logs.specs.Standing.{OnDisk}
-use Rattle.unit_logs.specs.Written.{Follows}
+use Rattle.unit_logs.specs.Written.{AreWritten}
 use Rattle.unit_logs.proofs.Survived.{TaskGrows, unwritten_restores, task_grows, stand_with, plan_of, all_restores, write_leaves, written_has, leaves_some}
 
 module _ {D : Type 0} (reads : D → Image) (number : D → ℕ) (images : D → Image → Type 0) (since : D → ℕ → Image → Type 0) (old : D) where
@@ -41,7 +41,7 @@ module _ {D : Type 0} (reads : D → Image) (number : D → ℕ) (images : D →
   grown = task_grows s (reads old) (images old) logs plan mark next made h on plans changelogs_are outputs_are sized
 
   -- each image has the next checkpoint once the plan is written
-  pub commits : (reads' : Image) (images' : Image → Type 0) (logs' : Logs) → Follows (reads old) (images old) reads' images' logs logs' plan → (c : Image) → images' c
+  pub commits : (reads' : Image) (images' : Image → Type 0) (logs' : Logs) → AreWritten (reads old) (images old) reads' images' logs logs' plan → (c : Image) → images' c
       → IsCommitted s (reads old) c mark next (state_of h) (unlogged_of h.stores) made
   commits reads' images' logs' follows c now =
       let g = grown in

@@ -25,7 +25,7 @@ use Rattle.unit_logs.specs.Planned.{PlansCommit, batch_at}
 use Rattle.restore_trim.specs.Standing.{IsOpenAt}
 use Rattle.unit_logs.specs.Standing.{OnDisk}
 use Rattle.unit_logs.specs.Commits.{IsFollowed, IsCommitted, IsUncommitted, LeavesMade, CommitLeaves}
-use Rattle.unit_logs.specs.Written.{Follows}
+use Rattle.unit_logs.specs.Written.{AreWritten}
 use Rattle.restore_trim.proofs.Growing.{open_has as open_frames}
 use Rattle.restore_trim.proofs.Outcomes.{log_of}
 use Rattle.restore_trim.proofs.Tails.{has_frames}
@@ -288,7 +288,7 @@ module _ (s : Setup) (reads : Image) (images : Image → Type 0) (logs : Logs) (
         )
 
     -- each image has all of the plan once it is written
-    pub written_has : (reads' : Image) (images' : Image → Type 0) (logs' : Logs) → Follows reads images reads' images' logs logs' plan → (c : Image) → images' c → HasAll (length s.stores) (length s.outputs) had more c
+    pub written_has : (reads' : Image) (images' : Image → Type 0) (logs' : Logs) → AreWritten reads images reads' images' logs logs' plan → (c : Image) → images' c → HasAll (length s.stores) (length s.outputs) had more c
     written_has reads' images' logs' follows c now = record {
       mark = has_frames reads' images' checkpoint_file logs'.marks (had.marks ++ (more.mark ∷ []) ∷ []) (follows.marks had.marks more.mark grows.mark_open grows.mark_frame) c now;
       changes = λ i lt.

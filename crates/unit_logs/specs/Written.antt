@@ -64,7 +64,7 @@ MarksAppended reads images reads' images' log log' frame = (before : List (List 
     → IsOpenAt reads images checkpoint_file log before → IsFrame frame (r ∷ []) → IsOpenAt reads' images' checkpoint_file log' (before ++ (r ∷ []) ∷ [])
 
 -- each log has the frames that it had, followed by the plan's
-pub record Follows (reads : Image) (images : Image → Type 0) (reads' : Image) (images' : Image → Type 0) (logs logs' : Logs) (plan : Plan) : Type 0 where
+pub record AreWritten (reads : Image) (images : Image → Type 0) (reads' : Image) (images' : Image → Type 0) (logs logs' : Logs) (plan : Plan) : Type 0 where
   pub marks : MarksAppended reads images reads' images' logs.marks logs'.marks plan.frame
   pub changelogs : AreAppended reads images reads' images' (changelog_file 0) logs.changelogs.items logs'.changelogs.items plan.changes.items
   pub outputs : AreAppended reads images reads' images' (output_file 0) logs.outputs.items logs'.outputs.items plan.sends.items

@@ -9,7 +9,7 @@ ghost use Rattle.topic_log.specs.declared.logs.Log.{Log as LogValue};
 ghost use Rattle.topic_log.specs.Opened.{file_of, count_of, is_broken, IsOpen, Appends};
 ghost use Rattle.unit_logs.specs.Crashes.{TaskFrames, PlanRecords, StandWith, IsPlanOf, WriteLeaves};
 ghost use Rattle.restore_trim.specs.Standing.{IsOpenAt, OthersStay};
-ghost use Rattle.unit_logs.specs.Written.{AreSound, StandOpen, IsPlanFor, Reaches, MarksAppended, Follows};
+ghost use Rattle.unit_logs.specs.Written.{AreSound, StandOpen, IsPlanFor, Reaches, MarksAppended, AreWritten};
 ghost use Rattle.topic_log.specs.Planning.{ReachesBy};
 
 use crate::CommitFault;
@@ -95,7 +95,7 @@ impl Logs {
         requires reaches { Reaches self.old plan.now reach.now }
         requires open { D.tells → StandOpen (D.reads disk.old) (D.images disk.old) self.old }
         ensures follows { OnOk result (D.tells
-            → Follows (D.reads disk.old) (D.images disk.old) (D.reads disk.new) (D.images disk.new)
+            → AreWritten (D.reads disk.old) (D.images disk.old) (D.reads disk.new) (D.images disk.new)
             self.old self.new plan.now) }
         // A crash at any moment leaves the checkpoint file as it was, or all of the plan.
         ensures any_moment { D.tells → (had : TaskFrames) (more : PlanRecords)

@@ -5,7 +5,7 @@ use Rattle.disk_model.proofs.Replays.{state_more}
 use Rattle.disk_model.specs.FileStates.{FileState, after}
 use Rattle.disk_model.specs.Formed.{formed}
 use Rattle.disk_model.specs.Picks.{IsCrashOf, read_after, torn_after}
-use Rattle.disk_model.specs.Traces.{bytes_at, state_of}
+use Rattle.disk_model.specs.Traces.{bytes_at, file_state}
 use Rattle.disk_model.specs.declared.traces.Entry.TheVariants.{Quiet}
 use Rattle.disk_model.proofs.crashes.redo_all.Goals as goal
 
@@ -16,9 +16,9 @@ loop-i-preserved c =
     let w = c.args.written.now in
     let i = c.loop-i.i in
     let e = get_or noted i Quiet in
-    let s : ℕ → FileState = state_of start (take i noted) w in
+    let s : ℕ → FileState = file_state start (take i noted) w in
     let was = c.loop-i.invariant in
-    let more : (f : ℕ) → state_of start (take (i + 1) noted) w f ≡ after w f e (s f) =
+    let more : (f : ℕ) → file_state start (take (i + 1) noted) w f ≡ after w f e (s f) =
     state_more start (take i noted) (take (i + 1) noted) e w (take_more noted i Quiet c.loop-i-test.true) in
     record {
       file_rooms = record {
@@ -38,5 +38,5 @@ loop-i-preserved c =
           let step : IsCrashOf c.args.pick (after w f e (s f)) (torn_after c.args.pick w f e (s f).now (bytes_at c.loop-i.torn.items f)) =
           crash_after c.args.pick w f e (s f) (bytes_at c.loop-i.torn.items f) (formed start (take i noted) w f) (was.torn f) in
           let at_state = subst (λ (t : FileState). IsCrashOf c.args.pick t (torn_after c.args.pick w f e (s f).now (bytes_at c.loop-i.torn.items f))) (sym (more f)) step in
-          subst (λ (l : List ℕ). IsCrashOf c.args.pick (state_of start (take (i + 1) noted) w f) l) (sym made) at_state;
+          subst (λ (l : List ℕ). IsCrashOf c.args.pick (file_state start (take (i + 1) noted) w f) l) (sym made) at_state;
     }

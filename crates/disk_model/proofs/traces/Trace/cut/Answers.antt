@@ -2,8 +2,8 @@ use Rattle.std.proofs.Common.{◌∙◌, ℕ, suc, zero, ◌≡◌, ap, take, sy
 use Rattle.std.proofs.lemmas.List.{get_or_past}
 use Rattle.disk_model.proofs.Replays.{bound_grown, kept_at, rooms_set, state_cut, unwritten_set}
 use Rattle.disk_model.specs.FileStates.{with_cut}
-use Rattle.disk_model.specs.Held.{Held, no_bytes}
-use Rattle.disk_model.specs.Traces.{bytes_at, end_of, reach_of, state_of, used_by}
+use Rattle.disk_model.specs.HeldBytes.{HeldBytes, no_bytes}
+use Rattle.disk_model.specs.Traces.{bytes_at, file_end, reach_of, file_state, used_by}
 use Rattle.disk_model.specs.declared.traces.Entry.TheVariants.{Shortened}
 use Rattle.disk_model.proofs.traces.Trace.cut.Goals as goal
 
@@ -19,13 +19,13 @@ pub invariant_of-self-clause-kept : goal.invariant_of-self-clause-kept
 invariant_of-self-clause-kept c =
     let t = c.args.self.now in
     let file = c.args.file in
-    let states = state_of t.start.items t.noted.items t.written.items in
+    let states = file_state t.start.items t.noted.items t.written.items in
     let step = state_cut t.start.items t.noted.items c.add_entry.new.noted.items file c.args.size t.written.items c.add_entry.ensures.items in
     let same : take c.args.size (bytes_at t.files.items file) ≡ take c.args.size (states file).now = ap (λ (l : List ℕ). take c.args.size l) (t.kept file) in
     kept_at t.files.items c.cut_in.new.files.items file _ (with_cut c.args.size) states _ c.cut_in.ensures t.kept step
     (λ _. same)
     (λ past.
-    let none : bytes_at t.files.items file ≡ [] = ap (λ (h : Held). h.bytes) (get_or_past t.files.items file no_bytes past) in
+    let none : bytes_at t.files.items file ≡ [] = ap (λ (h : HeldBytes). h.bytes) (get_or_past t.files.items file no_bytes past) in
     gone c.args.size (bytes_at t.files.items file) (states file).now none (t.kept file))
 
 pub invariant_of-self-clause-used : goal.invariant_of-self-clause-used
@@ -57,4 +57,4 @@ invariant_of-self-clause-unwritten c =
 pub invariant_of-self-clause-known : goal.invariant_of-self-clause-known
 invariant_of-self-clause-known c =
     let t = c.args.self.now in
-    bound_grown end_of t.noted.items c.add_entry.new.noted.items (Shortened c.args.file c.args.size) _ _ c.add_entry.ensures.items t.known (omega arith) (omega arith)
+    bound_grown file_end t.noted.items c.add_entry.new.noted.items (Shortened c.args.file c.args.size) _ _ c.add_entry.ensures.items t.known (omega arith) (omega arith)

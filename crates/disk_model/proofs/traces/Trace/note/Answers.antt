@@ -1,6 +1,6 @@
 use Rattle.std.proofs.Common.{◌∙◌, sym, arith}
 use Rattle.disk_model.proofs.Replays.{bound_grown, state_still, still_end, still_kept, still_reach, still_used}
-use Rattle.disk_model.specs.Traces.{end_of, reach_of, used_by}
+use Rattle.disk_model.specs.Traces.{file_end, reach_of, used_by}
 use Rattle.disk_model.proofs.traces.Trace.note.Goals as goal
 
 pub invariant_of-self-clause-kept : goal.invariant_of-self-clause-kept
@@ -26,4 +26,4 @@ returns-clause-noted c =
 pub invariant_of-self-clause-known : goal.invariant_of-self-clause-known
 invariant_of-self-clause-known c =
     let t = c.args.self.now in
-    bound_grown end_of t.noted.items c.add_entry.new.noted.items c.args.entry _ _ c.add_entry.ensures.items t.known (omega arith) (still_end c.args.entry _ c.requires)
+    bound_grown file_end t.noted.items c.add_entry.new.noted.items c.args.entry _ _ c.add_entry.ensures.items t.known (omega arith) (still_end c.args.entry _ c.requires)

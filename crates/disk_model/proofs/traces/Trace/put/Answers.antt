@@ -2,7 +2,7 @@ use Rattle.std.proofs.Common.{◌∙◌, ℕ, ◌≡◌, ap, arith, List, length
 use Rattle.disk_model.proofs.Replays.{bound_grown, kept_at, rooms_set, state_wrote, unwritten_set, wrote_past}
 use Rattle.disk_model.specs.Cells.{put_at}
 use Rattle.disk_model.specs.FileStates.{with_written}
-use Rattle.disk_model.specs.Traces.{end_of, reach_of, state_of, used_by}
+use Rattle.disk_model.specs.Traces.{file_end, reach_of, file_state, used_by}
 use Rattle.disk_model.specs.declared.traces.Entry.TheVariants.{Wrote}
 use Rattle.disk_model.proofs.traces.Trace.put.Goals as goal
 use Rattle.disk_model.proofs.traces.Trace.put.Goals.{After-put_in}
@@ -18,7 +18,7 @@ invariant_of-self-clause-kept c =
     let t = c.args.self.now in
     let file = c.args.file in
     let b = c.args.bytes.now in
-    let states = state_of t.start.items t.noted.items t.written.items in
+    let states = file_state t.start.items t.noted.items t.written.items in
     let step = state_wrote t.start.items t.noted.items c.add_entry.new.noted.items file c.args.at t.written.items c.add_bytes.new.written.items b (noted_is (goal.at.invariant_of-self-clause-kept c).After-put_in) c.add_bytes.ensures.items t.used in
     kept_at t.files.items c.put_in.new.files.items file _ (with_written c.args.at b) states _ c.put_in.ensures t.kept step
     (λ _. ap (λ (l : List ℕ). put_at c.args.at b l) (t.kept file))
@@ -59,4 +59,4 @@ invariant_of-self-clause-unwritten c =
 pub invariant_of-self-clause-known : goal.invariant_of-self-clause-known
 invariant_of-self-clause-known c =
     let t = c.args.self.now in
-    bound_grown end_of t.noted.items c.add_entry.new.noted.items _ _ _ c.add_entry.ensures.items t.known (omega arith) (omega arith)
+    bound_grown file_end t.noted.items c.add_entry.new.noted.items _ _ _ c.add_entry.ensures.items t.known (omega arith) (omega arith)
