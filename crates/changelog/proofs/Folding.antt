@@ -12,8 +12,7 @@ use Rattle.topic_log.specs.declared.logs.Log.{Log}
 use Rattle.topic_log.specs.Batches.{AreOf, AreUnread, HasBatches}
 use Rattle.topic_log.specs.Moves.{Rests}
 use Rattle.topic_log.specs.Opened.{IsOpen}
-use Rattle.topic_log.proofs.Moving.{rests_then}
-use Rattle.topic_log.proofs.Spelling.{joined-push, all_append}
+use Rattle.topic_log.proofs.Laws.{rests_then, joined-push, all_append}
 use Rattle.changelog.specs.declared.folds.Fold.{Fold}
 use Rattle.changelog.specs.Folds.{IsFold}
 use Rattle.changelog.specs.Reading.{HasRead}

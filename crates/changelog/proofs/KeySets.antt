@@ -8,8 +8,7 @@ use Rattle.std.specs.List.Sorted.{IsStrictlySortedBy}
 use Rattle.std.specs.BTreeMap.{is_at}
 use Rattle.std.specs.FinMap as fin
 use Rattle.kv_store.specs.Tracked.{is_in, set_of}
-use Rattle.kv_store.proofs.KeySets.{has, same_keys, is_in-set_of, keys-set_of, all_keys}
-use Rattle.kv_store.proofs.Updates.{same_key, equal_from_same_key}
+use Rattle.kv_store.proofs.Laws.{has, same_keys, is_in-set_of, keys-set_of, all_keys, same_key, equal_from_same_key}
 
 -- lists with the same keys are of one set
 pub set_of-same : (ks ms : List (List ℕ)) → ((q : List ℕ) → has q ks ≡ has q ms) → set_of ks ≡ set_of ms

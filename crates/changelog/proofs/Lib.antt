@@ -1,4 +1,5 @@
 mod Folding
 mod KeySets
+pub mod Laws
 mod Replaying
-pub mod Reverting
+mod Reverting

@@ -8,11 +8,10 @@ use Rattle.std.proofs.lemmas.List.{take_all, drop_all, take-append-le, drop-appe
 use Rattle.samza_model.specs.declared.messages.Record.{Record}
 use Rattle.samza_model.specs.Content.{Content, nothing_stored, updated, foldrec}
 use Rattle.kv_store.specs.Tracked.{Keys, set_of}
-use Rattle.kv_store.proofs.Updates.{replayed-append}
+use Rattle.kv_store.proofs.Laws.{replayed-append, has}
 use Rattle.changelog.specs.declared.folds.Fold.{Fold}
 use Rattle.changelog.specs.Folds.{IsFold}
 use Rattle.changelog.specs.Reading.{HasRead}
-use Rattle.kv_store.proofs.KeySets.{has}
 use Rattle.changelog.proofs.KeySets.{set_of-push}
 
 abbrev keys_in : List Record → List (List ℕ)

@@ -7,11 +7,9 @@ use Rattle.samza_model.specs.declared.messages.Record.{Record}
 use Rattle.samza_model.specs.Content.{Content, nothing_stored, updated, replayed, foldrec}
 use Rattle.samza_model.specs.Limits.{IsWithinLimits}
 use Rattle.kv_store.specs.Tracked.{set_of, AreWithinLimits, records_of}
-use Rattle.kv_store.proofs.Updates.{same_key, get-updated, replayed-append}
-use Rattle.kv_store.proofs.Tracking.{AreWithinLimits-updated, AreWithinLimits-nothing, get-within, replayed-unlogged}
-use Rattle.topic_log.proofs.Spelling.{all_front, all_back}
+use Rattle.kv_store.proofs.Laws.{same_key, get-updated, replayed-append, AreWithinLimits-updated, AreWithinLimits-nothing, get-within, replayed-unlogged, has, is_in-set_of}
+use Rattle.topic_log.proofs.Laws.{all_front, all_back}
 use Rattle.changelog.specs.Folds.{keys_of, reverts_of, IsFold}
-use Rattle.kv_store.proofs.KeySets.{has, is_in-set_of}
 use Rattle.changelog.proofs.KeySets.{keys-set_of_none, all_set_of}
 
 or_left : (a b : Bool) → (a || b) ≡ false → a ≡ false

@@ -11,7 +11,7 @@ use Rattle.topic_log.specs.declared.logs.Log.{Log}
 use Rattle.topic_log.specs.Batches.{HasPlace, IsNext}
 use Rattle.topic_log.specs.Extents.{IsLast, StandsBehind}
 use Rattle.topic_log.specs.Opened.{IsOpen, count_of}
-use Rattle.topic_log.proofs.Spelling.{spelled-append}
+use Rattle.topic_log.proofs.Laws.{spelled-append}
 use Rattle.checkpoint_log.specs.Ends.{IsAlone, IsEnd, IsBadEnd}
 
 -- two lists that begin with the same one

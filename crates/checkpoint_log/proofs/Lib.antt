@@ -1,6 +1,7 @@
-pub mod Again
+mod Again
 mod Ends
-mod Loop
 mod LastFrame
-pub mod Sizes
+pub mod Laws
+mod Loop
+mod Sizes
 mod Spelled

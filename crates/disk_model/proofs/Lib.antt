@@ -1,13 +1,14 @@
-pub mod ByName
-pub mod Capacities
-pub mod Counts
-pub mod CrashSteps
-pub mod HostSteps
-pub mod Lending
-pub mod Moments
-pub mod Places
-pub mod Replays
-pub mod SameDisks
-pub mod SlotSteps
-pub mod Steps
-pub mod Torn
+mod ByName
+mod Capacities
+mod Counts
+mod CrashSteps
+mod HostSteps
+pub mod Laws
+mod Lending
+mod Moments
+mod Places
+mod Replays
+mod SameDisks
+mod SlotSteps
+mod Steps
+mod Torn

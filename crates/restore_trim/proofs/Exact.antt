@@ -8,8 +8,8 @@ use Rattle.samza_model.specs.Checkpoint.{Spells}
 use Rattle.samza_model.specs.Content.{Content, nothing_stored, foldrec, store_at}
 use Rattle.samza_model.specs.Files.{Image, checkpoint_file, changelog_file}
 use Rattle.samza_model.specs.Restored.{count_at, EndsWith, HasMark, HoldsContent, IsMarked, Restores}
-use Rattle.topic_log.proofs.Spelling.{frames_unique, log_unique}
-use Rattle.checkpoint_log.proofs.Again.{spells_one}
+use Rattle.topic_log.proofs.Laws.{frames_unique, log_unique}
+use Rattle.checkpoint_log.proofs.Laws.{spells_one}
 
 -- frames end with one checkpoint
 pub ends_one : (frames : List (List Record)) (a b : Checkpoint) → EndsWith frames a → EndsWith frames b → a ≡ b

@@ -10,8 +10,7 @@ use Rattle.topic_log.specs.declared.logs.Log.{Log}
 use Rattle.topic_log.specs.Opened.{size_of}
 use Rattle.topic_log.specs.Growth.{HasRoom, LacksRoom, Passes, PassesBy}
 use Rattle.topic_log.specs.Steps.{closed_frames}
-use Rattle.topic_log.proofs.Logged.{open_reads}
-use Rattle.topic_log.proofs.Spelling.{frames_unique}
+use Rattle.topic_log.proofs.Laws.{open_reads, frames_unique}
 use Rattle.restore_trim.specs.Standing.{IsOpenAt}
 use Rattle.restore_trim.proofs.Cutting.{cut_unique}
 

@@ -1,13 +1,14 @@
-pub mod Cutting
-pub mod Exact
-pub mod Growing
+mod Cutting
+mod Exact
+mod Growing
+pub mod Laws
 mod Logs
 mod Openings
-pub mod Others
-pub mod Outcomes
+mod Others
+mod Outcomes
 mod Places
 mod SoFar
-pub mod Tails
+mod Tails
 mod Taking
 mod Telling
 mod Whole

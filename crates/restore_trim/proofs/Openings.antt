@@ -9,7 +9,7 @@ use Rattle.samza_model.specs.Restored.{EndsAs, HasMark, IsNamed}
 use Rattle.topic_log.specs.declared.faults.LogFault.{LogFault}
 use Rattle.topic_log.specs.declared.faults.LogFault.TheVariants.{Device, Damaged, Limit, Broken, NoMemory}
 use Rattle.topic_log.specs.Growth.{Passes}
-use Rattle.topic_log.proofs.Spelling.{frames_unique}
+use Rattle.topic_log.proofs.Laws.{frames_unique}
 use Rattle.restore_trim.specs.declared.faults.OpenFault.{OpenFault}
 use Rattle.restore_trim.specs.declared.faults.OpenFault.TheVariants.{Device as OpenDevice, Damaged as OpenDamaged, Shape, Ahead, Limit as OpenLimit, NoMemory as OpenNoMemory}
 use Rattle.restore_trim.specs.Refused.{HasChanges, IsMiscount, IsNoLogAt, IsOpeningOf, RevertPasses, StoreOpens, WhyNoFile, WhyNoStore}

@@ -10,10 +10,10 @@ use Rattle.samza_model.specs.Files.{Image, checkpoint_file, changelog_file, outp
 use Rattle.samza_model.specs.Logs.{joined, HasFrames, HasLog, HasNoLog}
 use Rattle.samza_model.specs.Restored.{count_at, store_file, HasMark, HoldsContent, IsMarked, Restores}
 use Rattle.disk_model.specs.Images.{LeavesOnly}
-use Rattle.disk_model.proofs.Moments.{followed, followed_from, weaker}
+use Rattle.disk_model.proofs.Laws.{followed, followed_from, weaker}
 use Rattle.topic_log.specs.declared.logs.Log.{Log}
 use Rattle.topic_log.specs.Opened.{KeepsFrames}
-use Rattle.topic_log.proofs.Spelling.{frames_unique, joined-append}
+use Rattle.topic_log.proofs.Laws.{frames_unique, joined-append}
 use Rattle.restore_trim.specs.Crashes.{IsNoChangelog, KeepsOutputs, OpeningLeaves, TailsGrow, TakesBack, RevertsFiles}
 use Rattle.restore_trim.specs.Refused.{OutputsHold}
 use Rattle.restore_trim.specs.Standing.{HoldsMark, IsRestored, OthersStay}

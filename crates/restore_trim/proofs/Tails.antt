@@ -8,14 +8,13 @@ use Rattle.samza_model.specs.Limits.{frame_batch}
 use Rattle.samza_model.specs.Logs.{joined, HasFrames, HasNoLog}
 use Rattle.samza_model.specs.Restored.{count_at}
 use Rattle.disk_model.specs.Images.{LeavesOnly}
-use Rattle.disk_model.proofs.Moments.{started, followed, weaker}
+use Rattle.disk_model.proofs.Laws.{started, followed, weaker}
 use Rattle.log_frame.specs.Cuts.{IsCut}
 use Rattle.changelog.specs.Folds.{reverts_of}
 use Rattle.topic_log.specs.declared.logs.Log.{Log}
 use Rattle.topic_log.specs.Moves.{Rests, Same}
 use Rattle.topic_log.specs.Opened.{Appends, KeepsFrames}
-use Rattle.topic_log.proofs.Logged.{open_log_has}
-use Rattle.topic_log.proofs.Spelling.{frames_unique}
+use Rattle.topic_log.proofs.Laws.{open_log_has, frames_unique}
 use Rattle.restore_trim.specs.Crashes.{KeepsLog, KeepsOutputs, TakesBack, Reverts, RevertsFile, RevertsFiles}
 use Rattle.restore_trim.specs.Standing.{IsOpenAt}
 

@@ -12,9 +12,9 @@ use Rattle.log_frame.specs.Frame.{FrameView, AreFrames}
 use Rattle.topic_log.specs.declared.logs.Log.{Log}
 use Rattle.topic_log.specs.Opened.{count_of, size_of}
 use Rattle.topic_log.specs.Growth.{HasRoom, LacksRoom, PassesBy}
-use Rattle.topic_log.proofs.Spelling.{frames_unique, joined-append}
+use Rattle.topic_log.proofs.Laws.{frames_unique, joined-append}
 use Rattle.changelog.specs.Folds.{IsFold, reverts_of}
-use Rattle.changelog.proofs.Reverting.{foldrec-reverts_of, records_of-fold, reverts_of-none}
+use Rattle.changelog.proofs.Laws.{foldrec-reverts_of, records_of-fold, reverts_of-none}
 use Rattle.restore_trim.specs.Refused.{HasChanges, RevertPasses, StoreOpens}
 use Rattle.restore_trim.specs.Standing.{HoldsStore, IsOpenAt}
 use Rattle.restore_trim.proofs.Growing.{cut_passes, lacks_passes, open_has}

@@ -15,13 +15,13 @@ use Rattle.samza_model.specs.declared.turns.Why.{Why}
 use Rattle.samza_model.specs.Content.{State, store_at}
 use Rattle.samza_model.specs.Meaning.{Meaning}
 use Rattle.samza_model.specs.Partition.{envelopes}
-use Rattle.samza_model.proofs.Partitions.{message_in}
+use Rattle.samza_model.proofs.Laws.{message_in}
 use Rattle.samza_model.specs.Runs.{End, runs, folds}
 use Rattle.kv_store.specs.Tracked.{Keys, no_keys, record_now, records_of}
 use Rattle.unit_logs.specs.Held.{unlogged_at}
 use Rattle.task_unit.specs.Touched.{acts_of, touched, keys_in}
 use Rattle.task_unit.specs.Units.{IsMessage, NothingUnlogged, input_of}
-use Rattle.task_unit.proofs.Touching.{keys_in-records}
+use Rattle.task_unit.proofs.Laws.{keys_in-records}
 use Rattle.samza_container.specs.Runs.{between, touched_by, AreChanges, Does}
 
 -- the message at an offset of its input

@@ -8,19 +8,18 @@ use Rattle.samza_model.specs.Content.{Content, State}
 use Rattle.samza_model.specs.Files.{Image}
 use Rattle.samza_model.specs.Meaning.{Meaning}
 use Rattle.samza_model.specs.Partition.{partition_of}
-use Rattle.samza_model.proofs.Partitions.{end_in}
+use Rattle.samza_model.proofs.Laws.{end_in}
 use Rattle.samza_model.specs.Restored.{next_at, start_of}
 use Rattle.disk_model.specs.Folders.{Folder}
 use Rattle.std.proofs.lemmas.List.{take-append-drop}
 use Rattle.job_config.specs.declared.config.JobConfig.{JobConfig}
 use Rattle.shipped_jobs.specs.Classes.{meaning_of}
-use Rattle.topic_log.proofs.Spelling.{log_unique}
+use Rattle.topic_log.proofs.Laws.{log_unique}
 use Rattle.restore_trim.specs.declared.faults.OpenFault.{OpenFault}
 use Rattle.task_unit.specs.Opens.{Opens}
 use Rattle.task_unit.specs.Units.{LogsStay, WhyNotOpened, input_of}
-use Rattle.restore_trim.proofs.Exact.{restores_one}
-use Rattle.task_unit.proofs.Exact.{not_kept_shut}
-use Rattle.task_unit.proofs.OneCause.{one_cause}
+use Rattle.restore_trim.proofs.Laws.{restores_one}
+use Rattle.task_unit.proofs.Laws.{not_kept_shut, one_cause}
 use Rattle.samza_container.specs.declared.faults.RunFault.{RunFault}
 use Rattle.samza_container.specs.declared.faults.RunFault.TheVariants.{Words, NoText, TextLimit, BadEscape, BadKey, NotBuilt, NoPartition, Device, NotOpened, Failed, Limit, NoMemory}
 use Rattle.samza_container.specs.Causes.{IsJobOf, IsReady, IsSetUpBy, Runnable, WhyNotReady, WhyStopped, WhyUnfinished, open_status, status_of}

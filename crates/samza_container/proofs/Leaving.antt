@@ -10,8 +10,7 @@ use Rattle.disk_model.specs.declared.names.DiskName.{DiskName}
 use Rattle.disk_model.specs.Folders.{Folder}
 use Rattle.disk_model.specs.Handles.{SameAt, SameDisk}
 use Rattle.disk_model.specs.Images.{LeavesOnly}
-use Rattle.disk_model.proofs.Moments.{started, weaker, followed_from}
-use Rattle.disk_model.proofs.SameDisks.{same_at_trans, same_disk_refl}
+use Rattle.disk_model.proofs.Laws.{started, weaker, followed_from, same_at_trans, same_disk_refl}
 use Rattle.restore_trim.specs.Crashes.{OpeningLeaves}
 use Rattle.unit_logs.specs.Commits.{CommitLeaves}
 use Rattle.task_unit.specs.Units.{UnitValue}

@@ -1,2 +1,3 @@
-pub mod Partitions
-pub mod Topics
+pub mod Laws
+mod Partitions
+mod Topics

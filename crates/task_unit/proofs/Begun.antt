@@ -20,10 +20,9 @@ use Rattle.task_unit.specs.Acting.{KeepsClean}
 use Rattle.unit_logs.specs.Held.{Held, contents_of}
 use Rattle.unit_logs.specs.Standing.{OnDisk}
 use Rattle.task_unit.specs.Units.{LogsStay, AreWhole}
-use Rattle.topic_log.proofs.Spelling.{frames_unique, joined-append, log_unique}
-use Rattle.restore_trim.proofs.Tails.{has_frames}
-use Rattle.unit_logs.proofs.Committed.{open_has}
-use Rattle.unit_logs.proofs.Holding.{content_at}
+use Rattle.topic_log.proofs.Laws.{frames_unique, joined-append, log_unique}
+use Rattle.restore_trim.proofs.Laws.{has_frames}
+use Rattle.unit_logs.proofs.Laws.{open_has, content_at}
 
 -- what was restored, told with equal parts
 pub restored_as : (s : Setup) (before reads : Image) (images : Image → Type 0) (mark mark' : Option Checkpoint) (marks : Log) (changelogs outputs : List Log) (logs : Logs) (stores stores' : List Content)

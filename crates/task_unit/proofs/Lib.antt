@@ -1,8 +1,9 @@
 mod Begun
-pub mod Exact
+mod Exact
 mod Flushed
+pub mod Laws
 mod Made
-pub mod OneCause
+mod OneCause
 mod TakingBack
-pub mod Touching
+mod Touching
 mod Turns

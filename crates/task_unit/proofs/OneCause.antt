@@ -10,14 +10,13 @@ use Rattle.samza_model.specs.Logs.{joined, spelled}
 use Rattle.samza_model.specs.Partition.{partition_of, end_of}
 use Rattle.samza_model.specs.Restored.{count_at, next_at, EndsWith}
 use Rattle.topic_log.specs.Damage.{IsDamagedAt}
-use Rattle.topic_log.proofs.Damaging.{damage_unique, damaged_once}
-use Rattle.topic_log.proofs.Spelling.{frames_unique, log_unique}
+use Rattle.topic_log.proofs.Laws.{damage_unique, damaged_once, frames_unique, log_unique}
 use Rattle.restore_trim.specs.declared.faults.OpenFault.{OpenFault}
 use Rattle.restore_trim.specs.declared.faults.OpenFault.TheVariants.{Device, Damaged, Shape, Ahead, Limit, NoMemory}
 use Rattle.restore_trim.specs.Refused.{EndsBadly, HasChanges, HasOtherNames, OutputsRefused, RevertPasses, StoresRefused, WhyNoFile, WhyNoMark, WhyNoStore, WhyRefused}
 use Rattle.task_unit.specs.Inputs.{WhyNoInput}
 use Rattle.task_unit.specs.Units.{InputRefused, IsPastEnd, WhyNotOpened, input_of}
-use Rattle.restore_trim.proofs.Exact.{marked_one}
+use Rattle.restore_trim.proofs.Laws.{marked_one}
 use Rattle.task_unit.proofs.Exact.{changes_one, has_file, has_input, has_mark, has_store, has_stores, not_refused}
 
 -- a fault that is one of these two is free of a cause

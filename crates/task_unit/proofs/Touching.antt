@@ -17,12 +17,12 @@ use Rattle.samza_model.specs.Content.{Content, State, changed, answer_of, nothin
 use Rattle.samza_model.specs.Runs.{End, end_at}
 use Rattle.samza_model.specs.Meaning.{Meaning}
 use Rattle.kv_store.specs.Tracked.{Keys, Tracked, no_keys, with_key, with_change, marked, set_of, record_now, records_of, unlogged_records}
-use Rattle.kv_store.proofs.Updates.{bytes_tell_apart}
+use Rattle.kv_store.proofs.Laws.{bytes_tell_apart}
 use Rattle.task_unit.specs.Acting.{with_stored, dirty_at, IsTouched, AreTouched}
 use Rattle.unit_logs.specs.Held.{Held, tracked_at, contents_of, unlogged_of, unlogged_at}
 use Rattle.task_unit.specs.Touched.{acts_on, with_act, touched, keys_in}
 use Rattle.task_unit.proofs.Made.{IsAside}
-use Rattle.unit_logs.proofs.Holding.{content_at}
+use Rattle.unit_logs.proofs.Laws.{content_at}
 
 -- the acts from one on, by how the turn ends there
 acts_behind : Meaning → Setup → Envelope → ℕ → State → List Answer → Act → Option End → List Act

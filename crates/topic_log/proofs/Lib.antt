@@ -1,14 +1,15 @@
 mod Batching
 mod Bytes
-pub mod Damaging
+mod Damaging
 mod Extending
-mod Listing
-pub mod Logged
 mod Headers
-pub mod Moving
+pub mod Laws
+mod Listing
+mod Logged
+mod Moving
 mod Produced
 mod Putting
-pub mod Spelling
 mod Settling
+mod Spelling
 mod Walking
 mod Writing

@@ -9,7 +9,7 @@ use Rattle.samza_model.specs.Frames.{frame_bytes}
 use Rattle.samza_model.specs.Limits.{IsFrameable}
 use Rattle.samza_model.specs.Logs.{spelled, joined, ReadsAs, HasFrames}
 use Rattle.disk_model.specs.Images.{SameElsewhere, Only, LeavesOnly}
-use Rattle.disk_model.proofs.Moments.{started}
+use Rattle.disk_model.proofs.Laws.{started}
 use Rattle.log_frame.specs.Frame.{FrameView, AreFrames}
 use Rattle.topic_log.specs.declared.logs.Log.{Log}
 use Rattle.topic_log.specs.Moves.{Moves}

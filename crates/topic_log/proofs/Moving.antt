@@ -2,7 +2,7 @@
 use Rattle.std.proofs.Common.{ℕ, ◌≡◌, ◌≤◌, inl, inr, sym, ◌∙◌, subst, refl, arith}
 use Rattle.samza_model.specs.Files.{Image}
 use Rattle.disk_model.specs.Images.{Follows, Keeps, Joins, LeavesOnly}
-use Rattle.disk_model.proofs.Moments.{started, goes_on}
+use Rattle.disk_model.proofs.Laws.{started, goes_on}
 use Rattle.topic_log.specs.Moves.{Moves, Rests, Same}
 
 module _ {D : Type 0} (reads : D → Image) (number : D → ℕ) (images : D → Image → Type 0) (since : D → ℕ → Image → Type 0) where

@@ -7,7 +7,7 @@ use Rattle.samza_model.specs.Frames.{frame_bytes}
 use Rattle.samza_model.specs.Limits.{file_limit}
 use Rattle.samza_model.specs.Logs.{spelled, HasFrames}
 use Rattle.disk_model.specs.Images.{SameElsewhere, LeavesOnly}
-use Rattle.disk_model.proofs.Moments.{followed_from, weaker}
+use Rattle.disk_model.proofs.Laws.{followed_from, weaker}
 use Rattle.topic_log.specs.declared.logs.Log.{Log}
 use Rattle.topic_log.specs.Opened.{file_of, size_of, IsOpen, KeepsFrames, Appends}
 use Rattle.topic_log.specs.Producing.{Produces, IsFull}

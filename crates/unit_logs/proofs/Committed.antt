@@ -9,16 +9,16 @@ use Rattle.samza_model.specs.Content.{Content, foldrec, store_at, nothing_stored
 use Rattle.samza_model.specs.Files.{Image, changelog_file, output_file}
 use Rattle.samza_model.specs.Logs.{joined, HasLog}
 use Rattle.samza_model.specs.Restored.{HasMark, id_of, count_at}
-use Rattle.kv_store.proofs.Updates.{replayed-append}
+use Rattle.kv_store.proofs.Laws.{replayed-append}
 use Rattle.topic_log.specs.declared.logs.Log.{Log}
-use Rattle.topic_log.proofs.Spelling.{joined-append}
+use Rattle.topic_log.proofs.Laws.{joined-append}
 use Rattle.unit_logs.specs.declared.writing.Logs.{Logs}
 use Rattle.unit_logs.specs.declared.writing.Plan.{Plan}
 use Rattle.unit_logs.specs.Held.{IsSized, Held, tracked_at, contents_of}
 use Rattle.unit_logs.specs.Appending.{AreOpen}
 use Rattle.unit_logs.specs.Planned.{PlansCommit}
 use Rattle.restore_trim.specs.Standing.{IsOpenAt}
-use Rattle.restore_trim.proofs.Growing.{open_has as open_frames}
+use Rattle.restore_trim.proofs.Laws.{open_has as open_frames}
 use Rattle.unit_logs.specs.Standing.{MarkStands, OnDisk}
 use Rattle.unit_logs.specs.Written.{AreWritten, StandOpen}
 use Rattle.unit_logs.proofs.Holding.{content_at}

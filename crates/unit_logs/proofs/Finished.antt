@@ -6,7 +6,7 @@ use Rattle.samza_model.specs.Content.{Content}
 use Rattle.samza_model.specs.Files.{Image}
 use Rattle.samza_model.specs.Restored.{Restores}
 use Rattle.disk_model.specs.Images.{LeavesOnly}
-use Rattle.disk_model.proofs.Moments.{started, weaker}
+use Rattle.disk_model.proofs.Laws.{started, weaker}
 use Rattle.restore_trim.specs.Standing.{OthersStay}
 use Rattle.unit_logs.specs.declared.writing.Logs.{Logs}
 use Rattle.unit_logs.specs.declared.writing.Plan.{Plan}

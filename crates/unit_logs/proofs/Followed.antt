@@ -6,7 +6,7 @@ use Rattle.samza_model.specs.declared.setups.Setup.{Setup}
 use Rattle.samza_model.specs.Content.{Content, State, sent_at}
 use Rattle.samza_model.specs.Files.{Image, output_file}
 use Rattle.samza_model.specs.Logs.{joined, HasLog}
-use Rattle.topic_log.proofs.Spelling.{joined-append}
+use Rattle.topic_log.proofs.Laws.{joined-append}
 use Rattle.unit_logs.specs.Commits.{IsFollowed, IsCommitted, IsUncommitted}
 
 -- records that stand behind those that a log had

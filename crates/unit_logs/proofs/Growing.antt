@@ -9,7 +9,7 @@ use Rattle.samza_model.specs.Limits.{frame_batch}
 use Rattle.samza_model.specs.Logs.{joined}
 use Rattle.log_frame.specs.Cuts.{IsCut}
 use Rattle.log_frame.specs.Frame.{AreFrames}
-use Rattle.topic_log.proofs.Spelling.{joined-append, log_unique}
+use Rattle.topic_log.proofs.Laws.{joined-append, log_unique}
 use Rattle.unit_logs.specs.declared.writing.Logs.{Logs}
 use Rattle.unit_logs.specs.declared.writing.Plan.{Plan}
 use Rattle.unit_logs.specs.declared.writing.Reach.{Reach}
@@ -18,7 +18,7 @@ use Rattle.unit_logs.specs.Growth.{IsNextMark, PassesLimit}
 use Rattle.unit_logs.specs.Planned.{PlansCommit, batch_at}
 use Rattle.unit_logs.specs.Standing.{OnDisk}
 use Rattle.unit_logs.specs.Written.{Reaches, IsNoRoomFor}
-use Rattle.restore_trim.proofs.Growing.{lacks_passes, has_passes, cut_passes}
+use Rattle.restore_trim.proofs.Laws.{lacks_passes, has_passes, cut_passes}
 use Rattle.unit_logs.proofs.Committed.{id_was, open_has}
 use Rattle.unit_logs.proofs.Holding.{unlogged_is}
 use Rattle.unit_logs.proofs.MarkSizes.{marks_long}

@@ -1,14 +1,15 @@
 mod Appended
-pub mod Committed
+mod Committed
 mod Extents
-pub mod Finished
-pub mod Followed
-pub mod Growing
-pub mod Holding
+mod Finished
+mod Followed
+mod Growing
+mod Holding
 mod Kept
+pub mod Laws
 mod MarkSizes
 mod Moments
 mod Others
 mod PlansSoFar
-pub mod SetUps
-pub mod Survived
+mod SetUps
+mod Survived

@@ -5,7 +5,7 @@ use Rattle.samza_model.specs.declared.messages.Record.{Record}
 use Rattle.samza_model.specs.Files.{Image, checkpoint_file, changelog_file, output_file}
 use Rattle.samza_model.specs.Logs.{HasFrames}
 use Rattle.disk_model.specs.Images.{LeavesOnly}
-use Rattle.disk_model.proofs.Moments.{started, followed, followed_from, weaker}
+use Rattle.disk_model.proofs.Laws.{started, followed, followed_from, weaker}
 use Rattle.log_frame.specs.Frame.{FrameView, AreFrames}
 use Rattle.topic_log.specs.declared.logs.Log.{Log}
 use Rattle.topic_log.specs.Opened.{file_of, IsOpen, Appends}
@@ -14,8 +14,7 @@ use Rattle.unit_logs.specs.Crashes.{HaveFrames, AreFramesOf, AppendsEach, TaskFr
 use Rattle.restore_trim.specs.Standing.{IsOpenAt}
 use Rattle.unit_logs.specs.declared.writing.Logs.{Logs}
 use Rattle.unit_logs.proofs.Appended.{AppendedSoFar, open_at}
-use Rattle.restore_trim.proofs.Others.{lies_outside}
-use Rattle.restore_trim.proofs.Tails.{same_has, has_frames}
+use Rattle.restore_trim.proofs.Laws.{lies_outside, same_has, has_frames}
 use Rattle.unit_logs.proofs.Kept.{below_stays, output_stays, mark_stays}
 
 -- some item of a list that has one

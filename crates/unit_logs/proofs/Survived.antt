@@ -12,11 +12,11 @@ use Rattle.samza_model.specs.Limits.{frame_batch}
 use Rattle.samza_model.specs.Logs.{joined, HasFrames}
 use Rattle.samza_model.specs.Restored.{HasMark, EndsWith, IsNamed, HoldsContent, Restores, id_of, count_at, next_at}
 use Rattle.kv_store.specs.Tracked.{Tracked}
-use Rattle.kv_store.proofs.Updates.{replayed-append}
+use Rattle.kv_store.proofs.Laws.{replayed-append}
 use Rattle.log_frame.specs.Cuts.{IsCut}
 use Rattle.log_frame.specs.Frame.{IsFrame, AreFrames}
 use Rattle.topic_log.specs.declared.logs.Log.{Log}
-use Rattle.topic_log.proofs.Spelling.{joined-append, frames_unique, log_unique}
+use Rattle.topic_log.proofs.Laws.{joined-append, frames_unique, log_unique}
 use Rattle.unit_logs.specs.declared.writing.Logs.{Logs}
 use Rattle.unit_logs.specs.declared.writing.Plan.{Plan}
 use Rattle.unit_logs.specs.Held.{IsSized, Held, tracked_at, state_of, unlogged_of, unlogged_at}
@@ -26,9 +26,7 @@ use Rattle.restore_trim.specs.Standing.{IsOpenAt}
 use Rattle.unit_logs.specs.Standing.{OnDisk}
 use Rattle.unit_logs.specs.Commits.{IsFollowed, IsCommitted, IsUncommitted, LeavesMade, CommitLeaves}
 use Rattle.unit_logs.specs.Written.{AreWritten}
-use Rattle.restore_trim.proofs.Growing.{open_has as open_frames}
-use Rattle.restore_trim.proofs.Outcomes.{log_of}
-use Rattle.restore_trim.proofs.Tails.{has_frames}
+use Rattle.restore_trim.proofs.Laws.{open_has as open_frames, log_of, has_frames}
 use Rattle.unit_logs.proofs.Committed.{id_was}
 use Rattle.unit_logs.proofs.Holding.{content_at, unlogged_is}
 

@@ -1,5 +1,5 @@
 use Rattle.std.proofs.Common.{◌≡◌, rules, sym, ◌∙◌}
-use Rattle.kv_store.proofs.KeySets.{keys-set_of}
+use Rattle.kv_store.proofs.Laws.{keys-set_of}
 use Rattle.changelog.proofs.folds.in_order.Goals as goal
 
 pub returns : goal.returns

@@ -3,7 +3,7 @@ use Rattle.samza_model.specs.declared.messages.Record.{Record}
 use Rattle.topic_log.specs.declared.extents.Place.{Place}
 use Rattle.topic_log.specs.Batches.{IsNext}
 use Rattle.topic_log.specs.Opened.{count_of}
-use Rattle.topic_log.proofs.Moving.{rests_from}
+use Rattle.topic_log.proofs.Laws.{rests_from}
 use Rattle.checkpoint_log.proofs.LastFrame.{before_of, has_place, none_at_end, last_at_end, byte_small, ends_with, bad_end, alone_is}
 use Rattle.checkpoint_log.proofs.lasts.last.Goals as goal
 

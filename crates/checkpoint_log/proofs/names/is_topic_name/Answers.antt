@@ -1,5 +1,5 @@
 use Rattle.std.proofs.Common.{◌∙◌, sym}
-use Rattle.samza_model.proofs.Topics.{topic_then}
+use Rattle.samza_model.proofs.Laws.{topic_then}
 use Rattle.checkpoint_log.proofs.names.is_topic_name.Goals as goal
 
 pub returns-then-is_system_name : goal.returns-then-is_system_name

@@ -10,7 +10,7 @@ use Rattle.log_frame.specs.Frame.{FrameView, AreFrames}
 use Rattle.topic_log.specs.declared.logs.Log.{Log}
 use Rattle.topic_log.specs.Opened.{count_of, size_of, Appends}
 use Rattle.topic_log.specs.Growth.{HasRoom, LacksRoom}
-use Rattle.changelog.proofs.Reverting.{records_of-fold}
+use Rattle.changelog.proofs.Laws.{records_of-fold}
 use Rattle.restore_trim.specs.Standing.{HoldsStore, IsOpenAt}
 use Rattle.restore_trim.proofs.Openings.{written_fault}
 use Rattle.restore_trim.proofs.Taking.{counted_holds, counted_opens, lacks_room, taken_back, taken_opens}

@@ -1,7 +1,7 @@
 use Rattle.std.proofs.Common.{ℕ, List, inl, inr, refl, sym, ◌∙◌, ap, subst}
 use Rattle.samza_model.specs.Files.{Image}
 use Rattle.disk_model.specs.Images.{LeavesOnly}
-use Rattle.disk_model.proofs.SameDisks.{same_at_trans}
+use Rattle.disk_model.proofs.Laws.{same_at_trans}
 use Rattle.samza_container.specs.Causes.{ends_with, status_of, WhyUnfinished}
 use Rattle.samza_container.specs.Leaves.{RunLeaves}
 use Rattle.samza_container.specs.Reported.{Reported}

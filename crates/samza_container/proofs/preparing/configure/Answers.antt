@@ -1,5 +1,5 @@
 use Rattle.std.proofs.Common.{ℕ, Vec, Global, option_map, sym, ◌∙◌}
-use Rattle.disk_model.proofs.SameDisks.{same_at_trans}
+use Rattle.disk_model.proofs.Laws.{same_at_trans}
 use Rattle.samza_container.proofs.Ready.{text_is, text_refused, text_said}
 use Rattle.samza_container.proofs.Told.{if_err}
 use Rattle.samza_container.proofs.preparing.configure.Goals as goal

@@ -1,5 +1,5 @@
 use Rattle.std.proofs.Common.{subst, sym, ◌∙◌}
-use Rattle.disk_model.proofs.SameDisks.{same_at_trans}
+use Rattle.disk_model.proofs.Laws.{same_at_trans}
 use Rattle.samza_container.specs.Causes.{WhyNotOne}
 use Rattle.samza_container.specs.Configured.{input_disk}
 use Rattle.samza_container.proofs.Ready.{not_one, ready}

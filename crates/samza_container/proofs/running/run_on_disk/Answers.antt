@@ -2,7 +2,7 @@ use Rattle.std.proofs.Common.{inl, sym, subst}
 use Rattle.samza_model.specs.declared.setups.Setup.{Setup}
 use Rattle.samza_model.specs.Restored.{Restores}
 use Rattle.disk_model.specs.Images.{LeavesOnly}
-use Rattle.disk_model.proofs.Moments.{weaker}
+use Rattle.disk_model.proofs.Laws.{weaker}
 use Rattle.restore_trim.specs.Crashes.{OpeningLeaves}
 use Rattle.samza_container.specs.Causes.{ends_with, WhyUnfinished}
 use Rattle.samza_container.specs.Leaves.{FinishLeaves, RunLeaves}

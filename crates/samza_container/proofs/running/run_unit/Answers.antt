@@ -1,5 +1,5 @@
 use Rattle.std.proofs.Common.{inl, inr}
-use Rattle.disk_model.proofs.Moments.{weaker}
+use Rattle.disk_model.proofs.Laws.{weaker}
 use Rattle.samza_container.specs.Leaves.{FinishLeaves}
 use Rattle.samza_container.proofs.Ending.{may_eight}
 use Rattle.samza_container.proofs.Reporting.{finishes_with}

@@ -1,7 +1,7 @@
 use Rattle.std.proofs.Common.{refl, subst, sym, ap, ◌∙◌}
 use Rattle.std.specs.Prelude.{map, string_bytes}
 use Rattle.samza_model.specs.Files.{Image}
-use Rattle.disk_model.proofs.SameDisks.{same_at_trans}
+use Rattle.disk_model.proofs.Laws.{same_at_trans}
 use Rattle.shipped_jobs.specs.WordCount.{word_count}
 use Rattle.samza_container.specs.Causes.{WhyUnfinished, status_of}
 use Rattle.samza_container.specs.Configured.{input_disk, task_disk}

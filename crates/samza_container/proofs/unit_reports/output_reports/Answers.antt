@@ -1,5 +1,5 @@
 use Rattle.std.proofs.Common.{arith}
-use Rattle.unit_logs.proofs.SetUps.{few_outputs}
+use Rattle.unit_logs.proofs.Laws.{few_outputs}
 use Rattle.samza_container.proofs.unit_reports.output_reports.Goals as goal
 
 pub overflow_cast-j : goal.overflow_cast-j

@@ -1,5 +1,5 @@
 use Rattle.std.proofs.Common.{arith}
-use Rattle.unit_logs.proofs.SetUps.{few_stores}
+use Rattle.unit_logs.proofs.Laws.{few_stores}
 use Rattle.samza_container.proofs.unit_reports.store_reports.Goals as goal
 
 pub overflow_cast-i : goal.overflow_cast-i

@@ -4,7 +4,7 @@ use Rattle.samza_model.specs.declared.checkpoints.Checkpoint.{Checkpoint}
 use Rattle.samza_model.specs.declared.setups.InputSetup.{InputSetup}
 use Rattle.samza_model.specs.Partition.{partition_of}
 use Rattle.samza_model.specs.Restored.{id_of, next_at, start_of}
-use Rattle.samza_model.proofs.Partitions.{end_in}
+use Rattle.samza_model.proofs.Laws.{end_in}
 use Rattle.restore_trim.specs.declared.faults.OpenFault.TheVariants.{Ahead}
 use Rattle.topic_log.specs.declared.logs.Log.{Log}
 use Rattle.topic_log.specs.Opened.{count_of, is_broken}
@@ -17,7 +17,7 @@ use Rattle.task_unit.specs.Acting.{held}
 use Rattle.unit_logs.specs.Held.{contents_of}
 use Rattle.task_unit.specs.Inputs.{TellsInput, WhyNoInput}
 use Rattle.task_unit.specs.Units.{input_of}
-use Rattle.unit_logs.proofs.SetUps.{few_stores, few_outputs}
+use Rattle.unit_logs.proofs.Laws.{few_stores, few_outputs}
 use Rattle.task_unit.proofs.Begun.{restored_as, restores_as, stands_restored, whole_restored, logs_stay, next_kept}
 use Rattle.task_unit.proofs.beginning.start.Goals as goal
 

@@ -6,7 +6,7 @@ use Rattle.samza_model.specs.Limits.{IsWithinLimits}
 use Rattle.topic_log.specs.declared.logs.Log.{Log}
 use Rattle.topic_log.specs.Batches.{HasBatches}
 use Rattle.topic_log.specs.Opened.{is_broken}
-use Rattle.topic_log.proofs.Moving.{no_read, rests_then}
+use Rattle.topic_log.proofs.Laws.{no_read, rests_then}
 use Rattle.changelog.specs.Reading.{HasRead}
 use Rattle.changelog.proofs.Folding.{folding_none, folding_more, folded_all, folded_within, folded_short}
 use Rattle.changelog.proofs.changelogs.Changelog.fold.Goals as goal

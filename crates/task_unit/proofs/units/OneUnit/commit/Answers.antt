@@ -13,10 +13,7 @@ use Rattle.task_unit.specs.Units.{IsCommitOf, MadeLeaves, CrashLeaves, CommitPas
 use Rattle.samza_model.specs.Restored.{Restores, id_of}
 use Rattle.topic_log.specs.Opened.{count_of}
 use Rattle.disk_model.specs.Images.{LeavesOnly}
-use Rattle.unit_logs.proofs.Committed.{stand_open, stands_made}
-use Rattle.unit_logs.proofs.Finished.{others_still, still, commits, left_made, left_some, left_others}
-use Rattle.unit_logs.proofs.Growing.{passes_limit, within_limit}
-use Rattle.unit_logs.proofs.SetUps.{few_stores}
+use Rattle.unit_logs.proofs.Laws.{stand_open, stands_made, others_still, still, commits, left_made, left_some, left_others, passes_limit, within_limit, few_stores}
 use Rattle.task_unit.proofs.Flushed.{none_unlogged}
 use Rattle.task_unit.proofs.units.OneUnit.commit.Goals as goal
 

@@ -1,0 +1,3 @@
+-- What the crates above may use of this crate's proofs: laws of its definitions. No other file here is theirs to import.
+pub use Rattle.samza_model.proofs.Partitions.{end_in, message_in, start_in}
+pub use Rattle.samza_model.proofs.Topics.{topic_then}
