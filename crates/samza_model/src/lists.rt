@@ -1,5 +1,5 @@
 // A list that stands in a public struct, and lists that are filled one item after another.
-ghost use Rattle.std.specs.Prelude.{◌≡◌, ◌↔◌, ◌++◌, ◌∷◌, [], IfOk, IsTrue, OnOk, length};
+ghost use Rattle.std.specs.Prelude.{◌≡◌, ◌↔◌, ◌-◌, ◌++◌, ◌∷◌, [], take, IfOk, OnOk, OnErr, IsTrue, length};
 
 use crate::{NoMemory, Plain};
 use std::alloc::Global;
@@ -42,6 +42,26 @@ impl<T> Items<T> {
         ensures { result.now ≡ self.now }
     {
         self.items.as_slice()
+    }
+
+    /// One more at the end. The one error is want of memory.
+    pub fn push(&mut self, item: T) -> Result<(), NoMemory>
+    where
+        T: Drop,
+        ensures ok { OnOk result (self.new ≡ self.old ++ item ∷ []) }
+        ensures err { OnErr result (self.new ≡ self.old) }
+    {
+        self.items.push(item)?;
+        Ok(())
+    }
+
+    /// Lets the last item go, if there is one. It takes no memory.
+    pub fn drop_last(&mut self)
+    where
+        T: Drop,
+        ensures { self.new ≡ take (length self.old - 1) self.old }
+    {
+        let _ = self.items.pop();
     }
 }
 
