@@ -1,3 +1,5 @@
+mod Folds
 pub mod Laws
+mod OneTurn
 mod Partitions
 mod Topics

@@ -1,0 +1,3 @@
+mod Covering
+mod Flying
+mod Folding
