@@ -47,10 +47,13 @@ fold_more job s (x ∷ es) e state between left before ran = by_end (λ first. f
   where
     then : State
     then = (runs job s x state).state
+
     with_end : End → Run
     with_end y = record { state = then; end = y }
+
     not_none : {A : Type 0} → None ≡ Some between → A
     not_none is = absurd cc
+
     by_end : (folds job s es then ≡ Some between → folds job s (es ++ e ∷ []) then ≡ Some left) → (y : End) → (runs job s x state).end ≡ y → folds job s (x ∷ (es ++ e ∷ [])) state ≡ Some left
     by_end more None is =
         fold_goes_on job s (es ++ e ∷ []) x state then (ap with_end is)
