@@ -42,11 +42,23 @@ const COUNTS_EIGHT: File = &[
 
 const SENT_TWICE: File = &[FIRST_SENT, THIRD_SENT, THIRD_SENT, CLOSED];
 
-/// How many device calls a run makes before it appends to the output, where it has nothing to take back; and how many before
-/// it opens the gate of what it takes back, where the changelog has two frames.
-const OPENING: u64 = 11;
+/// The device calls that open a log which has frames: a sync, its size, and a read.
+const LOG_OPENED: u64 = 3;
 
-const REVERT_GATE: u64 = 11;
+/// Those that read the last checkpoint, and that fold a changelog: a read each.
+const CHECKPOINT_READ: u64 = 1;
+
+const FOLDED: u64 = 1;
+
+/// Those that write frames behind a closed gate: a write and a sync.
+const STAGED: u64 = 2;
+
+/// How many a run makes before it appends to the output, where it has nothing to take back: it opens the checkpoints, the
+/// changelog and the output.
+const OPENING: u64 = 3 * LOG_OPENED + CHECKPOINT_READ + FOLDED;
+
+/// How many it makes before it opens the gate of what it takes back, which it does before it opens the output.
+const REVERT_GATE: u64 = 2 * LOG_OPENED + CHECKPOINT_READ + FOLDED + STAGED;
 
 /// Where a run begins.
 #[derive(Clone, Copy, Debug, PartialEq, Eq)]
