@@ -159,3 +159,21 @@ fn two_frames_are_written_under_one_pair_of_syncs(rt: HostRuntime) -> Result<(),
     assert_eq!(rt; calls, 6);
     Ok(())
 }
+
+/// How many device calls the folding of a log of these records makes, in frames of three.
+fn folding_calls(alloc: Global, rows: &[Row]) -> Result<u64, Fail> {
+    let mut disk = disk(alloc)?;
+    let records = records(alloc, rows)?;
+    add(alloc, &mut disk, records.as_slice())?;
+    let mut log = Changelog::open_changelog(alloc, &mut disk, 1)?;
+    let before = disk.calls();
+    log.fold(alloc, &mut disk, 0)?;
+    Ok(disk.calls().saturating_sub(before))
+}
+
+#[test]
+fn small_frames_are_folded_by_one_read(rt: HostRuntime) -> Result<(), Fail> {
+    assert_eq!(rt; folding_calls(rt.alloc(), &[])?, 0);
+    assert_eq!(rt; folding_calls(rt.alloc(), FIVE)?, 1);
+    Ok(())
+}
