@@ -2,6 +2,7 @@ ghost use Rattle.std.specs.Prelude.{◌≡◌, IfOk};
 ghost use Rattle.disk_model.specs.Handles.{NoneOut};
 ghost use Rattle.file_host.specs.Folders.{folder_disks_out, folder_shelves_out};
 
+use crate::comparing::is_same;
 use disk_model::{Disk, DiskFault, DiskName, Host, Shelf};
 use file_host::*;
 use samza_model::Bin;
@@ -9,6 +10,7 @@ use std::alloc::Global;
 use std::fs;
 use std::fs::File;
 use std::os::unix::fs::symlink;
+use std::process::Abort;
 use std::test::Fail;
 
 fn stream_in(alloc: Global) -> Result<DiskName, Fail> {
@@ -23,9 +25,17 @@ fn folder(rt: &HostRuntime, name: &str) -> Result<FileHost<HostRuntime>, Fail>
     ensures { IfOk result (λ h. NoneOut (folder_disks_out h) (folder_shelves_out h)) }
 {
     let mut host = FileHost::new(rt.clone()?);
-    host.enter(rt.alloc(), name)?;
-    Ok(host)
+    match host.enter(rt.alloc(), name) {
+        Ok(()) => Ok(host),
+        Err(fault) => {
+            let_go(host);
+            Err(Fail::from(fault))
+        }
+    }
 }
+
+/// Lets a host go, so that no test has to part by part.
+fn let_go(_host: FileHost<HostRuntime>) {}
 
 /// What a disk tells of a file of six bytes of which two were cut off: its size, whether a read past its end is refused,
 /// three of its bytes, and how many calls were made.
@@ -45,14 +55,30 @@ fn cut_file(
     Ok((size, is_refused, bytes, disk.calls()))
 }
 
-#[test]
-fn a_folder_keeps_what_a_disk_writes(rt: HostRuntime) -> Result<(), Fail> {
-    let mut host = folder(&rt, "keeps")?;
+fn told_of_a_disk(
+    alloc: Global,
+    host: &mut FileHost<HostRuntime>,
+) -> Result<((u64, bool, [u8; 3], u64), u64), Fail>
+    requires { NoneOut (folder_disks_out host.old) (folder_shelves_out host.old) }
+{
     let task = DiskName::Task(7);
-    let mut disk = host.lend(rt.alloc(), &task)?;
+    let mut disk = host.lend(alloc, &task)?;
     let told = cut_file(&mut disk, 3);
     host.take_disk(&task, disk);
-    assert_eq!(rt; (told?, host.faults()), ((4, true, [98, 99, 100], 6), 1));
+    Ok((told?, host.faults()))
+}
+
+/// What a disk of a folder tells, and the host's number of faults.
+fn kept(rt: &HostRuntime) -> Result<((u64, bool, [u8; 3], u64), u64), Fail> {
+    let mut host = folder(rt, "keeps")?;
+    let told = told_of_a_disk(rt.alloc(), &mut host);
+    let_go(host);
+    told
+}
+
+#[test]
+fn a_folder_keeps_what_a_disk_writes(rt: HostRuntime) -> Result<(), Fail> {
+    is_same(&rt, kept(&rt)?, ((4, true, [98, 99, 100], 6), 1));
     Ok(())
 }
 
@@ -67,18 +93,43 @@ fn last_bytes(shelf: &mut FileShelf) -> Result<(u64, bool, [u8; 2]), DiskFault>
     Ok((size, is_refused, bytes))
 }
 
-#[test]
-fn a_folder_shows_its_files(rt: HostRuntime) -> Result<(), Fail> {
-    let mut host = folder(&rt, "shows")?;
-    let name = stream_in(rt.alloc())?;
-    fs::create_dir_all(&rt, "shows/streams/kafka/in.1")?;
-    fs::write(&rt, "shows/streams/kafka/in.1/11.log", b"xyz".as_slice())?;
-    let mut shelf = host.shelf(rt.alloc(), &name, 11)?;
+fn told_of_a_shelf(
+    alloc: Global,
+    host: &mut FileHost<HostRuntime>,
+    name: &DiskName,
+) -> Result<((u64, bool, [u8; 2]), u64), Fail>
+    requires { NoneOut (folder_disks_out host.old) (folder_shelves_out host.old) }
+{
+    let mut shelf = host.shelf(alloc, name, 11)?;
     let told = last_bytes(&mut shelf);
     host.take_shelf(shelf);
-    assert_eq!(rt; (told?, host.faults()), ((3, true, [121, 122]), 1));
-    assert!(rt; host.text(rt.alloc())?.is_none());
+    Ok((told?, host.faults()))
+}
+
+/// What a shelf of a folder tells, and the host's number of faults.
+fn shown(rt: &HostRuntime) -> Result<((u64, bool, [u8; 2]), u64), Fail> {
+    fs::create_dir_all(rt, "shows/streams/kafka/in.1")?;
+    fs::write(rt, "shows/streams/kafka/in.1/11.log", b"xyz".as_slice())?;
+    let name = stream_in(rt.alloc())?;
+    let mut host = folder(rt, "shows")?;
+    let told = told_of_a_shelf(rt.alloc(), &mut host, &name);
+    let_go(host);
+    told
+}
+
+#[test]
+fn a_folder_shows_its_files(rt: HostRuntime) -> Result<(), Fail> {
+    is_same(&rt, shown(&rt)?, ((3, true, [121, 122]), 1));
+    is_same(&rt, text_of(&rt, "shows")?.is_none(), true);
     Ok(())
+}
+
+/// The configuration of a folder.
+fn text_of(rt: &HostRuntime, name: &str) -> Result<Option<Vec<u8>>, Fail> {
+    let mut host = folder(rt, name)?;
+    let text = host.text(rt.alloc());
+    let_go(host);
+    Ok(text?)
 }
 
 /// Names of files that come one after the other, and the number of partitions with each.
@@ -121,13 +172,27 @@ fn counted_well(rt: &HostRuntime, host: &mut FileHost<HostRuntime>) -> Result<us
     Ok(FILES.len())
 }
 
+fn counted_from_none(
+    rt: &HostRuntime,
+    host: &mut FileHost<HostRuntime>,
+) -> Result<(u32, usize), Fail> {
+    let _ = fs::remove_dir_all(rt, "counts");
+    let none = partitions(rt.alloc(), host)?;
+    fs::create_dir_all(rt, "counts/streams/kafka/in.1")?;
+    Ok((none, counted_well(rt, host)?))
+}
+
+/// How many partitions are counted of a stream that isn't there, and how many of the files are counted well.
+fn counted(rt: &HostRuntime) -> Result<(u32, usize), Fail> {
+    let mut host = folder(rt, "counts")?;
+    let told = counted_from_none(rt, &mut host);
+    let_go(host);
+    told
+}
+
 #[test]
 fn partitions_are_counted_by_the_files_names(rt: HostRuntime) -> Result<(), Fail> {
-    let mut host = folder(&rt, "counts")?;
-    let _ = fs::remove_dir_all(&rt, "counts");
-    assert_eq!(rt; partitions(rt.alloc(), &mut host)?, 0);
-    fs::create_dir_all(&rt, "counts/streams/kafka/in.1")?;
-    assert_eq!(rt; counted_well(&rt, &mut host)?, FILES.len());
+    is_same(&rt, counted(&rt)?, (0, FILES.len()));
     Ok(())
 }
 
@@ -144,71 +209,122 @@ fn counted_links(rt: &HostRuntime, host: &mut FileHost<HostRuntime>) -> Result<(
     Ok((none, partitions(rt.alloc(), host)?))
 }
 
+fn regular(rt: &HostRuntime) -> Result<(u32, u32), Fail> {
+    let mut host = folder(rt, "counts")?;
+    let told = counted_links(rt, &mut host);
+    let_go(host);
+    told
+}
+
 #[test]
 fn partitions_are_regular_files(rt: HostRuntime) -> Result<(), Fail> {
-    let mut host = folder(&rt, "counts")?;
-    assert_eq!(rt; counted_links(&rt, &mut host)?, (0, 3));
+    is_same(&rt, regular(&rt)?, (0, 3));
     Ok(())
 }
 
 /// Makes the folder of the tests of the configuration anew.
-fn fresh_text(rt: &HostRuntime) -> Result<FileHost<HostRuntime>, Fail> {
+fn make_text(rt: &HostRuntime) -> Result<(), Fail> {
     let _ = fs::remove_dir_all(rt, "text");
     fs::create_dir(rt, "text")?;
-    folder(rt, "text")
+    Ok(())
+}
+
+/// The configuration of that folder, and whether there is a cause of a failure.
+fn read(rt: &HostRuntime) -> Result<(Option<Vec<u8>>, bool), Fail> {
+    let mut host = folder(rt, "text")?;
+    let text = host.text(rt.alloc());
+    let has_failed = host.cause().is_some();
+    let_go(host);
+    Ok((text?, has_failed))
+}
+
+/// Whether there is a configuration, and it has these bytes.
+fn is_text(text: &Option<Vec<u8>>, want: &[u8]) -> bool {
+    match text {
+        Some(text) => text.as_slice() == want,
+        None => false,
+    }
+}
+
+/// The number of a configuration's bytes, 0 where there is none.
+fn length(text: &Option<Vec<u8>>) -> usize {
+    match text {
+        Some(text) => text.len(),
+        None => 0,
+    }
 }
 
 #[test]
 fn the_configuration_is_read(rt: HostRuntime) -> Result<(), Fail> {
-    let mut host = fresh_text(&rt)?;
+    make_text(&rt)?;
     fs::write(&rt, "text/job.properties", b"a=b".as_slice())?;
-    let text = host.text(rt.alloc())?;
-    assert!(rt; text.is_some_and(|text| text.as_slice() == b"a=b".as_slice()));
-    assert!(rt; host.cause().is_none());
+    let (text, has_failed) = read(&rt)?;
+    is_same(&rt, (is_text(&text, b"a=b"), has_failed), (true, false));
     Ok(())
 }
 
 #[test]
 fn a_configuration_that_is_too_long_is_read_to_its_bound(rt: HostRuntime) -> Result<(), Fail> {
-    let mut host = fresh_text(&rt)?;
+    make_text(&rt)?;
     let file = File::create(&rt, "text/job.properties")?;
     file.set_len(1 << 30)?;
-    let text = host.text(rt.alloc())?;
-    assert!(rt; text.is_some_and(|text| text.len() == 1_048_577));
+    let (text, _) = read(&rt)?;
+    is_same(&rt, length(&text), 1_048_577);
     Ok(())
 }
 
-/// The words of a host's first failure, and the number of faults.
-fn told(alloc: Global, host: &FileHost<HostRuntime>) -> Result<(String, u64), Fail> {
+/// Whether a call was refused, the number of faults, and the words of the host's first failure.
+type Told = (bool, u64, String);
+
+fn told(alloc: Global, host: &FileHost<HostRuntime>, is_refused: bool) -> Result<Told, Fail> {
     let mut words = String::new(alloc);
     if let Some(cause) = host.cause() {
         write!(words, "{cause}")?;
     }
-    Ok((words, host.faults()))
+    Ok((is_refused, host.faults(), words))
+}
+
+/// The call was refused, with so many faults and these words.
+fn tells(rt: &impl Abort, told: Told, faults: u64, words: &str) {
+    is_same(rt, (told.0, told.1), (true, faults));
+    is_same(rt, told.2.as_str(), words);
+}
+
+fn told_of_a_device(rt: &HostRuntime) -> Result<Told, Fail> {
+    make_text(rt)?;
+    symlink(rt, "/dev/zero", "text/job.properties")?;
+    let mut host = folder(rt, "text")?;
+    let is_refused = host.text(rt.alloc()).is_err();
+    let told = told(rt.alloc(), &host, is_refused);
+    let_go(host);
+    told
 }
 
 #[test]
 fn a_device_in_place_of_the_configuration_is_refused(rt: HostRuntime) -> Result<(), Fail> {
-    let mut host = fresh_text(&rt)?;
-    symlink(&rt, "/dev/zero", "text/job.properties")?;
-    let is_refused = host.text(rt.alloc()).is_err();
-    let (words, faults) = told(rt.alloc(), &host)?;
-    assert!(rt; is_refused && faults == 1);
-    assert_eq!(rt; words.as_str(), "text job.properties: not a regular file");
+    let told = told_of_a_device(&rt)?;
+    tells(&rt, told, 1, "text job.properties: not a regular file");
     Ok(())
+}
+
+fn told_of_a_folder(rt: &HostRuntime) -> Result<Told, Fail> {
+    let name = stream_in(rt.alloc())?;
+    fs::create_dir_all(rt, "shelved/streams/kafka/in.1/3.log")?;
+    let mut host = folder(rt, "shelved")?;
+    let is_refused = host.shelf(rt.alloc(), &name, 3).is_err();
+    let told = told(rt.alloc(), &host, is_refused);
+    let_go(host);
+    told
 }
 
 #[test]
 fn a_folder_in_place_of_a_shelfs_file_is_refused(rt: HostRuntime) -> Result<(), Fail> {
-    let mut host = folder(&rt, "shelved")?;
-    let name = stream_in(rt.alloc())?;
-    fs::create_dir_all(&rt, "shelved/streams/kafka/in.1/3.log")?;
-    let is_refused = host.shelf(rt.alloc(), &name, 3).is_err();
-    let (words, faults) = told(rt.alloc(), &host)?;
-    assert!(rt; is_refused && faults == 1);
-    assert_eq!(rt;
-        words.as_str(),
-        "shelf streams/kafka/in.1/3.log: not a regular file"
+    let told = told_of_a_folder(&rt)?;
+    tells(
+        &rt,
+        told,
+        1,
+        "shelf streams/kafka/in.1/3.log: not a regular file",
     );
     Ok(())
 }
@@ -221,31 +337,44 @@ fn fails_twice(disk: &mut FileDisk<HostRuntime>, file: u32) -> bool
     disk.sync(file).is_err() && is_refused
 }
 
-#[test]
-fn the_first_failure_of_a_disk_is_told(rt: HostRuntime) -> Result<(), Fail> {
-    let mut host = folder(&rt, "told")?;
+fn first_told(alloc: Global, host: &mut FileHost<HostRuntime>) -> Result<Told, Fail>
+    requires { NoneOut (folder_disks_out host.old) (folder_shelves_out host.old) }
+{
     let task = DiskName::Task(7);
-    fs::create_dir_all(&rt, "told/tasks/7/16.log")?;
-    let mut disk = host.lend(rt.alloc(), &task)?;
+    let mut disk = host.lend(alloc, &task)?;
     let has_failed = fails_twice(&mut disk, 16);
     host.take_disk(&task, disk);
-    let (words, faults) = told(rt.alloc(), &host)?;
-    assert!(rt; has_failed && faults == 2);
-    assert_eq!(rt; words.as_str(), "size tasks/7/16.log: not a regular file");
+    told(alloc, host, has_failed)
+}
+
+fn told_of_two(rt: &HostRuntime) -> Result<Told, Fail> {
+    fs::create_dir_all(rt, "told/tasks/7/16.log")?;
+    let mut host = folder(rt, "told")?;
+    let told = first_told(rt.alloc(), &mut host);
+    let_go(host);
+    told
+}
+
+#[test]
+fn the_first_failure_of_a_disk_is_told(rt: HostRuntime) -> Result<(), Fail> {
+    let told = told_of_two(&rt)?;
+    tells(&rt, told, 2, "size tasks/7/16.log: not a regular file");
     Ok(())
+}
+
+fn told_of_a_file(rt: &HostRuntime) -> Result<Told, Fail> {
+    let _ = fs::create_dir(rt, "blocked");
+    fs::write(rt, "blocked/tasks", b"".as_slice())?;
+    let mut host = folder(rt, "blocked")?;
+    let is_refused = host.lend(rt.alloc(), &DiskName::Task(0)).is_err();
+    let told = told(rt.alloc(), &host, is_refused);
+    let_go(host);
+    told
 }
 
 #[test]
 fn a_file_in_place_of_a_folder_is_told(rt: HostRuntime) -> Result<(), Fail> {
-    let mut host = folder(&rt, "blocked")?;
-    let _ = fs::create_dir(&rt, "blocked");
-    fs::write(&rt, "blocked/tasks", b"".as_slice())?;
-    let is_refused = host.lend(rt.alloc(), &DiskName::Task(0)).is_err();
-    let (words, faults) = told(rt.alloc(), &host)?;
-    assert!(rt; is_refused && faults == 1);
-    assert_eq!(rt;
-        words.as_str(),
-        "lend tasks/0/: Not a directory (os error 20)"
-    );
+    let told = told_of_a_file(&rt)?;
+    tells(&rt, told, 1, "lend tasks/0/: Not a directory (os error 20)");
     Ok(())
 }

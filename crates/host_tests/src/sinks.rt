@@ -1,3 +1,4 @@
+use crate::comparing::is_same;
 use edge_io::*;
 use samza_model::NoMemory;
 use std::alloc::Global;
@@ -21,40 +22,40 @@ fn three_writes(
 #[test]
 fn a_sink_takes_one_write_after_another(rt: HostRuntime) -> Result<(), Fail> {
     let mut sink = MemSink::new(rt.alloc(), 6, Vec::new(rt.alloc()))?;
-    sink.write(b"abc")?;
-    sink.write(b"")?;
-    sink.write(b"def")?;
-    assert_eq!(rt; sink.bytes(), b"abcdef".as_slice());
-    assert_eq!(rt; sink.faults(), 0);
+    let well = [
+        sink.write(b"abc").is_ok(),
+        sink.write(b"").is_ok(),
+        sink.write(b"def").is_ok(),
+    ];
+    is_same(&rt, (well, sink.faults()), ([true; 3], 0));
+    is_same(&rt, sink.bytes(), b"abcdef".as_slice());
     Ok(())
 }
 
+/// The room, the writes that fail, which of three go well, and how many bytes there are at the end.
+const WRITES: [(u64, &[u64], [bool; 3], usize); 3] = [
+    (6, &[1], [true, false, true], 4),
+    (3, &[], [true, false, false], 3),
+    (2, &[0, 7], [false, true, false], 2),
+];
+
 #[test]
 fn writes_fail_where_they_are_told_to_and_past_the_room(rt: HostRuntime) -> Result<(), Fail> {
-    let alloc = rt.alloc();
-    assert_eq!(rt;
-        three_writes(alloc, 6, vec![in alloc; 1]?)?,
-        ([true, false, true], 4)
-    );
-    assert_eq!(rt;
-        three_writes(alloc, 3, Vec::new(alloc))?,
-        ([true, false, false], 3)
-    );
-    assert_eq!(rt;
-        three_writes(alloc, 2, vec![in alloc; 0, 7]?)?,
-        ([false, true, false], 2)
-    );
+    for (room, fail_at, well, len) in WRITES {
+        let fail_at = Vec::from_slice(rt.alloc(), fail_at)?;
+        is_same(&rt, three_writes(rt.alloc(), room, fail_at)?, (well, len));
+    }
     Ok(())
 }
 
 #[test]
 fn a_failed_write_counts_and_leaves_a_part(rt: HostRuntime) -> Result<(), Fail> {
     let mut sink = MemSink::new(rt.alloc(), 4, Vec::new(rt.alloc()))?;
-    assert_eq!(rt; sink.write(b"abcdef"), Err(SinkFault::Failed));
-    assert_eq!(rt; sink.bytes(), b"abcd".as_slice());
-    assert_eq!(rt; sink.write(b"g"), Err(SinkFault::Failed));
-    assert_eq!(rt; sink.bytes(), b"abcd".as_slice());
-    assert_eq!(rt; sink.faults(), 2);
+    is_same(&rt, sink.write(b"abcdef"), Err(SinkFault::Failed));
+    is_same(&rt, sink.bytes(), b"abcd".as_slice());
+    is_same(&rt, sink.write(b"g"), Err(SinkFault::Failed));
+    is_same(&rt, sink.bytes(), b"abcd".as_slice());
+    is_same(&rt, sink.faults(), 2);
     Ok(())
 }
 
@@ -82,20 +83,19 @@ impl Write for Narrow {
 #[test]
 fn a_stream_that_breaks_counts_as_a_fault(rt: HostRuntime) -> Result<(), Fail> {
     let mut sink = StdSink::new(Narrow(0));
-    sink.write(b"ab")?;
-    assert_eq!(rt; sink.faults(), 0);
-    assert_eq!(rt; sink.write(b"cd"), Err(SinkFault::Failed));
-    assert_eq!(rt; sink.faults(), 1);
+    is_same(&rt, (sink.write(b"ab"), sink.faults()), (Ok(()), 0));
+    let broken = (sink.write(b"cd"), sink.faults());
+    is_same(&rt, broken, (Err(SinkFault::Failed), 1));
     Ok(())
 }
 
 #[test]
 fn the_standard_streams_are_written(rt: HostRuntime) -> Result<(), Fail> {
     let mut out = StdSink::new(rt.stdout());
-    out.write(b"to standard output\n")?;
-    assert_eq!(rt; out.faults(), 0);
+    let told = (out.write(b"to standard output\n"), out.faults());
+    is_same(&rt, told, (Ok(()), 0));
     let mut err = StdSink::new(rt.stderr());
-    err.write(b"to standard error\n")?;
-    assert_eq!(rt; err.faults(), 0);
+    let told = (err.write(b"to standard error\n"), err.faults());
+    is_same(&rt, told, (Ok(()), 0));
     Ok(())
 }
