@@ -23,10 +23,7 @@ pub(crate) fn copy_text(alloc: Global, text: &Option<Vec<u8>>) -> Result<Option<
 {
     match text {
         None => Ok(None),
-        Some(bytes) => match Vec::from_slice(alloc, bytes.as_slice()) {
-            Ok(copy) => Ok(Some(copy)),
-            Err(_) => Err(NoMemory),
-        },
+        Some(bytes) => Ok(Some(Vec::from_slice(alloc, bytes.as_slice())?)),
     }
 }
 

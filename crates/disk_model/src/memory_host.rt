@@ -324,10 +324,7 @@ impl Host for MemHost {
         if self.tally.fails() {
             return Err(HostFault::Device);
         }
-        match copy_text(alloc, &self.text) {
-            Ok(text) => Ok(text),
-            Err(_) => Err(HostFault::NoMemory),
-        }
+        Ok(copy_text(alloc, &self.text)?)
     }
 
     fn partitions(&mut self, alloc: Global, system: &Bin, stream: &Bin) -> Result<u32, HostFault>
@@ -350,10 +347,8 @@ impl Host for MemHost {
         if self.tally.fails() {
             return Err(HostFault::Device);
         }
-        match stream_name(alloc, system, stream) {
-            Ok(name) => Ok(count_of_files(&self.handed, &name)),
-            Err(_) => Err(HostFault::NoMemory),
-        }
+        let name = stream_name(alloc, system, stream)?;
+        Ok(count_of_files(&self.handed, &name))
     }
 
     fn shelf(&mut self, alloc: Global, name: &DiskName, file: u32) -> Result<MemShelf, HostFault>
@@ -385,16 +380,9 @@ impl Host for MemHost {
         if self.tally.fails() {
             return Err(HostFault::Device);
         }
-        let Ok(()) = self.ensure(alloc, name) else {
-            return Err(HostFault::NoMemory);
-        };
-        let Ok(failing) = failing_of(alloc, self.arms.as_slice(), name) else {
-            return Err(HostFault::NoMemory);
-        };
-        let shelf = match new_shelf(alloc, name, file, self.file(name, file), failing) {
-            Ok(shelf) => shelf,
-            Err(_) => return Err(HostFault::NoMemory),
-        };
+        self.ensure(alloc, name)?;
+        let failing = failing_of(alloc, self.arms.as_slice(), name)?;
+        let shelf = new_shelf(alloc, name, file, self.file(name, file), failing)?;
         if !self.handed.lend_shelf(name) {
             return Err(HostFault::NoMemory);
         }
@@ -436,12 +424,8 @@ impl Host for MemHost {
         if self.tally.fails() {
             return Err(HostFault::Device);
         }
-        let Ok(()) = self.ensure(alloc, name) else {
-            return Err(HostFault::NoMemory);
-        };
-        let Ok(failing) = failing_of(alloc, self.arms.as_slice(), name) else {
-            return Err(HostFault::NoMemory);
-        };
+        self.ensure(alloc, name)?;
+        let failing = failing_of(alloc, self.arms.as_slice(), name)?;
         match self.handed.lend_disk(name) {
             Some(disk) => Ok(as_handle(disk, failing)),
             None => Err(HostFault::NoMemory),
