@@ -169,6 +169,7 @@ impl<R: Files<File = File> + Send + Drop> Disk for FileDisk<R> {
     ghost none_above = { λ d f told le. absurd told };
 
     fn size(&mut self, file: u32) -> Result<u64, DiskFault> {
+        // not `?`, here and below: a call whose file doesn't open counts too
         let done = match self.open(file) {
             Ok(opened) => size_of(&opened),
             Err(error) => Err(error),

@@ -138,10 +138,8 @@ impl<R: Files<File = File> + AllocGlobal + Clone + Send + Drop> Host for FileHos
             Ok(opened) => opened,
             Err(error) => return Err(self.failed(FileCall::Shelf, Place::File(own, file), error)),
         };
-        match lend_shelf(&mut self.handed, alloc, name) {
-            Ok(()) => Ok(FileShelf::new(opened, own, file)),
-            Err(_) => Err(HostFault::NoMemory),
-        }
+        lend_shelf(&mut self.handed, alloc, name)?;
+        Ok(FileShelf::new(opened, own, file))
     }
 
     fn lend(&mut self, alloc: Global, name: &DiskName) -> Result<FileDisk<R>, HostFault> {
@@ -153,10 +151,8 @@ impl<R: Files<File = File> + AllocGlobal + Clone + Send + Drop> Host for FileHos
             Ok(paths) => paths,
             Err(error) => return Err(self.failed(FileCall::Lend, Place::Folder(own), error)),
         };
-        match lend_disk(&mut self.handed, alloc, name) {
-            Ok(()) => Ok(FileDisk::new(files, own, paths)),
-            Err(_) => Err(HostFault::NoMemory),
-        }
+        lend_disk(&mut self.handed, alloc, name)?;
+        Ok(FileDisk::new(files, own, paths))
     }
 
     fn take_shelf(&mut self, shelf: FileShelf)

@@ -29,10 +29,7 @@ pub(crate) fn open_if_there<R: Files<File = File>>(files: &R, path: &str) -> Res
     if !is_file_there(files, path)? {
         return Ok(None);
     }
-    match File::open(files, path) {
-        Ok(opened) => Ok(Some(opened)),
-        Err(error) => Err(error),
-    }
+    Ok(Some(File::open(files, path)?))
 }
 
 /// The file, opened for reading and writing, and made where it isn't there.
