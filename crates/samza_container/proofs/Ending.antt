@@ -10,10 +10,11 @@ use Rattle.samza_model.specs.Files.{Image}
 use Rattle.disk_model.specs.Folders.{Folder}
 use Rattle.restore_trim.specs.declared.faults.OpenFault.{OpenFault}
 use Rattle.restore_trim.specs.declared.faults.OpenFault.TheVariants.{Device as OpenDevice, Damaged, Shape, Ahead, Limit as OpenLimit, NoMemory as OpenNoMemory}
-use Rattle.samza_container.specs.declared.faults.RunFault.{RunFault}
-use Rattle.samza_container.specs.declared.faults.RunFault.TheVariants.{Words, NoText, TextLimit, BadEscape, BadKey, NotBuilt, NoPartition, Device, NotOpened, Failed, Limit, NoMemory}
-use Rattle.samza_container.specs.Causes.{IsOfFolder, TellsOf, failure_status, open_status, status_of}
-use Rattle.samza_container.specs.Endings.{Printed}
+use Rattle.container_texts.specs.declared.faults.RunFault.{RunFault}
+use Rattle.container_texts.specs.declared.faults.RunFault.TheVariants.{Words, NoText, TextLimit, BadEscape, BadKey, NotBuilt, NoPartition, Device, NotOpened, Failed, Limit, NoMemory}
+use Rattle.samza_container.specs.Causes.{IsOfFolder, TellsOf}
+use Rattle.container_texts.specs.Statuses.{failure_status, open_status, status_of}
+use Rattle.container_texts.specs.Printing.{Printed}
 use Rattle.samza_container.specs.Leaves.{FolderLeaves, MayCommit}
 use Rattle.samza_container.specs.Reported.{IsCause}
 use Rattle.samza_container.proofs.Naming.{no_memory}

@@ -20,12 +20,13 @@ use Rattle.task_unit.specs.Opens.{Opens}
 use Rattle.task_unit.specs.Units.{LogsStay, WhyNotOpened, input_of}
 use Rattle.restore_trim.proofs.Laws.{restores_one}
 use Rattle.task_unit.proofs.Laws.{not_kept_shut, one_cause}
-use Rattle.samza_container.specs.declared.faults.RunFault.{RunFault}
-use Rattle.samza_container.specs.declared.faults.RunFault.TheVariants.{Words, NoText, TextLimit, BadEscape, BadKey, NotBuilt, NoPartition, Device, NotOpened, Failed, Limit, NoMemory}
-use Rattle.samza_container.specs.Causes.{IsJobOf, IsReady, IsSetUpBy, Runnable, WhyNotReady, WhyStopped, WhyUnfinished, open_status, status_of}
+use Rattle.container_texts.specs.declared.faults.RunFault.{RunFault}
+use Rattle.container_texts.specs.declared.faults.RunFault.TheVariants.{Words, NoText, TextLimit, BadEscape, BadKey, NotBuilt, NoPartition, Device, NotOpened, Failed, Limit, NoMemory}
+use Rattle.samza_container.specs.Causes.{IsJobOf, IsReady, IsSetUpBy, Runnable, WhyNotReady, WhyStopped, WhyUnfinished}
+use Rattle.container_texts.specs.Statuses.{open_status, status_of}
 use Rattle.samza_container.specs.Configured.{configured, set_up_by, input_disk, task_disk}
 use Rattle.samza_container.specs.Runs.{fresh, CanRun, Does, FailsMessage, FailsMessageFrom, FillsFile, FillsFileFrom, Start}
-use Rattle.samza_container.specs.Words.{IsCommand, IsRefusedAt}
+use Rattle.container_texts.specs.Words.{IsCommand, IsRefusedAt}
 use Rattle.samza_container.proofs.Advancing.{undone}
 use Rattle.samza_container.proofs.Failing.{has_message, one_failed}
 

@@ -8,8 +8,6 @@ mod Passing
 mod Ready
 mod Reporting
 pub mod Spelling
-mod Taking
 mod Timely
 mod Told
-mod Wording
 mod Working

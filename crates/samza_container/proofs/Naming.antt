@@ -6,8 +6,8 @@ use Rattle.samza_model.specs.declared.setups.Setup.{Setup}
 use Rattle.disk_model.specs.Folders.{Folder}
 use Rattle.samza_model.specs.Meaning.{Meaning}
 use Rattle.unit_logs.specs.Standing.{IsSetUp}
-use Rattle.samza_container.specs.declared.faults.RunFault.{RunFault}
-use Rattle.samza_container.specs.declared.faults.RunFault.TheVariants.{Words, NoText, TextLimit, BadEscape, BadKey, NotBuilt, NoPartition, Device, NotOpened, Failed, Limit, NoMemory}
+use Rattle.container_texts.specs.declared.faults.RunFault.{RunFault}
+use Rattle.container_texts.specs.declared.faults.RunFault.TheVariants.{Words, NoText, TextLimit, BadEscape, BadKey, NotBuilt, NoPartition, Device, NotOpened, Failed, Limit, NoMemory}
 use Rattle.samza_container.specs.Causes.{IsOfFolder, IsReady, IsSetUpBy, NamesTask, TellsOf, WhyNotReady, WhyStopped, WhyUnfinished}
 use Rattle.samza_container.specs.Configured.{input_disk, task_disk}
 use Rattle.samza_container.specs.Reported.{IsCause, IsNamedIn, IsOf, Told}

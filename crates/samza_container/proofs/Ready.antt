@@ -3,8 +3,8 @@ use Rattle.std.proofs.Common.{ℕ, zero, suc, ◌≡◌, ◌<◌, List, Vec, Glo
 use Rattle.samza_model.specs.declared.setups.Setup.{Setup}
 use Rattle.disk_model.specs.Folders.{Folder}
 use Rattle.job_config.specs.declared.config.JobConfig.{JobConfig}
-use Rattle.samza_container.specs.declared.faults.RunFault.{RunFault}
-use Rattle.samza_container.specs.declared.faults.RunFault.TheVariants.{Words, NoText, TextLimit, BadEscape, BadKey, NotBuilt, NoPartition, Device, NotOpened, Failed, Limit, NoMemory}
+use Rattle.container_texts.specs.declared.faults.RunFault.{RunFault}
+use Rattle.container_texts.specs.declared.faults.RunFault.TheVariants.{Words, NoText, TextLimit, BadEscape, BadKey, NotBuilt, NoPartition, Device, NotOpened, Failed, Limit, NoMemory}
 use Rattle.samza_model.specs.declared.classes.Class.{Class}
 use Rattle.samza_model.specs.declared.classes.Class.TheVariants.{WordCount, Dedupe, SessionCount, TableJoin}
 use Rattle.shipped_jobs.specs.Classes.{meaning_of}

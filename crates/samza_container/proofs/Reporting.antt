@@ -12,8 +12,9 @@ use Rattle.unit_logs.specs.Commits.{IsCommitted}
 use Rattle.unit_logs.specs.Growth.{PassesLimit}
 use Rattle.output_log.specs.Outputs.{cleared_at}
 use Rattle.task_unit.specs.Units.{UnitValue, Counts, NothingUnsent}
-use Rattle.samza_container.specs.declared.reports.TaskReport.{TaskReport}
-use Rattle.samza_container.specs.Reported.{input_report, store_report, sent_by, AreRows, FinishesAs, FinishesWith, Reported, ReportsTask, ReportsUnit}
+use Rattle.container_texts.specs.declared.reports.TaskReport.{TaskReport}
+use Rattle.container_texts.specs.UnitReports.{input_report, store_report, sent_by, AreRows, ReportsTask, ReportsUnit}
+use Rattle.samza_container.specs.Reported.{FinishesAs, FinishesWith, Reported}
 use Rattle.samza_container.specs.Runs.{Advances}
 use Rattle.samza_container.proofs.Passing.{finishes}
 

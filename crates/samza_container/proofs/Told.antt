@@ -6,8 +6,8 @@ use Rattle.restore_trim.specs.declared.faults.OpenFault.{OpenFault}
 use Rattle.restore_trim.specs.declared.faults.OpenFault.TheVariants.{Device, Damaged, Shape, Ahead, Limit, NoMemory}
 use Rattle.task_unit.specs.Inputs.{WhyNoInput}
 use Rattle.task_unit.specs.Units.{WhyNotOpened}
-use Rattle.samza_container.specs.declared.faults.Stopped.{Stopped}
-use Rattle.samza_container.specs.Causes.{status_of}
+use Rattle.container_texts.specs.declared.faults.Stopped.{Stopped}
+use Rattle.container_texts.specs.Statuses.{status_of}
 use Rattle.samza_container.specs.Stops.{stops_with}
 
 pub if_ok : {A E : Type 0} (r : Result A E) {P Q : A → Type 0} → ((x : A) → P x → Q x) → IfOk r P → IfOk r Q

@@ -18,9 +18,9 @@ use Rattle.unit_logs.specs.Growth.{PassesLimit}
 use Rattle.restore_trim.specs.Crashes.{OpeningLeaves}
 use Rattle.output_log.specs.Outputs.{cleared_at}
 use Rattle.task_unit.specs.Units.{UnitValue, LogsStay, input_of}
-use Rattle.samza_container.specs.declared.faults.RunFault.{RunFault}
-use Rattle.samza_container.specs.declared.faults.RunFault.TheVariants.{Words, NoText, TextLimit, BadEscape, BadKey, NotBuilt, NoPartition, Device, NotOpened, Failed, Limit, NoMemory}
-use Rattle.samza_container.specs.declared.reports.TaskReport.{TaskReport}
+use Rattle.container_texts.specs.declared.faults.RunFault.{RunFault}
+use Rattle.container_texts.specs.declared.faults.RunFault.TheVariants.{Words, NoText, TextLimit, BadEscape, BadKey, NotBuilt, NoPartition, Device, NotOpened, Failed, Limit, NoMemory}
+use Rattle.container_texts.specs.declared.reports.TaskReport.{TaskReport}
 use Rattle.samza_container.specs.Causes.{TellsOf, WhyNotFinished, WhyUnfinished}
 use Rattle.samza_container.specs.Leaves.{CommitsFrom, FinishLeaves, RunLeaves}
 use Rattle.samza_container.specs.Reported.{FinishesWith, Reported}

@@ -3,7 +3,7 @@ use Rattle.std.specs.Prelude.{ℕ, ◌≡◌, ◌≢◌, ◌<◌, ◌⊎◌, Lis
 use Rattle.samza_model.specs.declared.messages.Record.{Record}
 use Rattle.samza_model.specs.declared.checkpoints.Checkpoint.{Checkpoint}
 use Rattle.samza_model.specs.declared.turns.Why.{Why}
-use Rattle.samza_model.specs.declared.turns.Why.TheVariants.{Code, TooMany, Limits, Expired}
+use Rattle.samza_model.specs.declared.turns.Why.TheVariants.{Expired}
 use Rattle.disk_model.specs.Folders.{Folder}
 use Rattle.samza_model.specs.Content.{State}
 use Rattle.samza_model.specs.Files.{Image}
@@ -13,14 +13,13 @@ use Rattle.disk_model.specs.declared.hosts.HostFault.{HostFault}
 use Rattle.disk_model.specs.declared.hosts.HostFault.TheVariants.{Device as HostDevice, NoMemory as HostNoMemory}
 use Rattle.job_config.specs.declared.config.JobConfig.{JobConfig}
 use Rattle.shipped_jobs.specs.Classes.{meaning_of}
-use Rattle.restore_trim.specs.declared.faults.OpenFault.{OpenFault}
-use Rattle.restore_trim.specs.declared.faults.OpenFault.TheVariants.{Device as OpenDevice, Damaged, Shape, Ahead, Limit as OpenLimit, NoMemory as OpenNoMemory}
 use Rattle.task_unit.specs.Units.{TellsTask, WhyNotOpened}
-use Rattle.samza_container.specs.declared.faults.RunFault.{RunFault}
-use Rattle.samza_container.specs.declared.faults.RunFault.TheVariants.{Words, NoText, TextLimit, BadEscape, BadKey, NotBuilt, NoPartition, Device, NotOpened, Failed, Limit, NoMemory}
+use Rattle.container_texts.specs.declared.faults.RunFault.{RunFault}
+use Rattle.container_texts.specs.declared.faults.RunFault.TheVariants.{Words, NoText, TextLimit, BadEscape, BadKey, NotBuilt, NoPartition, Device, NotOpened, Failed, Limit, NoMemory}
 use Rattle.samza_container.specs.Configured.{configured, set_up_by, task_disk, input_disk}
 use Rattle.samza_container.specs.Runs.{CanRun, FailsMessage, FailsMessageFrom, FillsFile, FillsFileFrom}
-use Rattle.samza_container.specs.Words.{IsRefusedAt}
+use Rattle.container_texts.specs.Statuses.{status_of}
+use Rattle.container_texts.specs.Words.{IsRefusedAt}
 
 -- a host's fault as the run's
 abbrev pub host_fault : HostFault → RunFault
@@ -107,36 +106,6 @@ Runnable f = (job : Meaning) × (s : Setup) × IsReady f job s × CanRun job s (
 abbrev pub WhyStopped : List (List ℕ) → Folder → RunFault → Type 0
 WhyStopped words f (Words place) = IsRefusedAt words place
 WhyStopped words f e = WhyNotReady f e ⊎ ((job : Meaning) × (s : Setup) × IsReady f job s × WhyUnfinished job s (f.disks (input_disk s) 0) (f.disks task_disk) e)
-
-abbrev pub open_status : OpenFault → ℕ
-open_status OpenDevice = 4
-open_status (Damaged input file at) = 6
-open_status Shape = 6
-open_status (Ahead input store wanted held) = 6
-open_status OpenLimit = 9
-open_status OpenNoMemory = 8
-
--- the status of a turn that failed
-abbrev pub failure_status : Why → ℕ
-failure_status (Code code) = 5
-failure_status TooMany = 5
-failure_status Limits = 5
-failure_status (Expired delivered now) = 11
-
--- the status with which the program ends
-abbrev pub status_of : RunFault → ℕ
-status_of (Words place) = 2
-status_of NoText = 3
-status_of TextLimit = 9
-status_of (BadEscape line) = 3
-status_of (BadKey key what) = 3
-status_of (NotBuilt key) = 3
-status_of NoPartition = 3
-status_of Device = 4
-status_of (NotOpened e) = open_status e
-status_of (Failed f) = failure_status f.why
-status_of Limit = 9
-status_of NoMemory = 8
 
 -- the status of a run that answered this
 abbrev pub ends_with : {A : Type 0} → Result A RunFault → ℕ

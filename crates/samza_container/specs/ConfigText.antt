@@ -4,8 +4,8 @@ use Rattle.props_text.specs.Pairs.{Props, props_of}
 use Rattle.job_config.specs.declared.config.JobConfig.{JobConfig}
 use Rattle.job_config.specs.Asking.{Fault}
 use Rattle.job_config.specs.Table.{config_of}
-use Rattle.samza_container.specs.declared.faults.RunFault.{RunFault}
-use Rattle.samza_container.specs.declared.faults.RunFault.TheVariants.{TextLimit, BadEscape, BadKey, NoMemory}
+use Rattle.container_texts.specs.declared.faults.RunFault.{RunFault}
+use Rattle.container_texts.specs.declared.faults.RunFault.TheVariants.{TextLimit, BadEscape, BadKey, NoMemory}
 
 -- the first bad key, if any
 abbrev pub of_keys : Result JobConfig Fault → Result JobConfig RunFault

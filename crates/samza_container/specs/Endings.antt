@@ -1,45 +1,23 @@
 -- How a command ends: well, for a cause, or unheard.
-use Rattle.std.specs.Prelude.{ℕ, ◌≡◌, ◌≢◌, ◌⊎◌, List, ◌++◌}
+use Rattle.std.specs.Prelude.{ℕ, ◌≡◌, List}
 use Rattle.samza_model.specs.declared.messages.Ssp.{Ssp}
 use Rattle.samza_model.specs.declared.messages.TaskName.{TaskName}
 use Rattle.samza_model.specs.Counters.{Rose}
 use Rattle.samza_model.specs.Files.{Image}
 use Rattle.disk_model.specs.declared.names.DiskName.{DiskName}
 use Rattle.disk_model.specs.Folders.{Folder}
-use Rattle.edge_io.specs.Received.{TookPart}
-use Rattle.samza_container.specs.declared.faults.RunFault.{RunFault}
-use Rattle.samza_container.specs.declared.faults.RunFault.TheVariants.{NoMemory}
-use Rattle.samza_container.specs.declared.reports.TaskReport.{TaskReport}
-use Rattle.samza_container.specs.Causes.{status_of}
+use Rattle.container_texts.specs.declared.faults.RunFault.{RunFault}
+use Rattle.container_texts.specs.declared.reports.TaskReport.{TaskReport}
+use Rattle.container_texts.specs.Statuses.{status_of}
 use Rattle.samza_container.specs.Configured.{task_disk}
-use Rattle.samza_container.specs.Reported.{line_of, report_of, IsCause, RunsTo}
-
--- a sink that tells its bytes received just this text
-abbrev pub Received : Type 0 → List ℕ → List ℕ → List ℕ → Type 0
-Received tells text before after = tells → after ≡ before ++ text
-
--- it received a front of it, or all of it
-abbrev pub ReceivedPart : Type 0 → List ℕ → List ℕ → List ℕ → Type 0
-ReceivedPart tells text before after = tells → TookPart text before after
+use Rattle.container_texts.specs.Printing.{line_of, report_of, Received, ReceivedPart}
+use Rattle.samza_container.specs.Reported.{IsCause, RunsTo}
 
 -- no count of faults rose: the host's, and those of both sinks
 pub record NothingFails {H W E : Type 0} (faults : H → ℕ) (faults' : W → ℕ) (faults'' : E → ℕ) (host host' : H) (out out' : W) (err err' : E) : Type 0 where
   pub of_host : Rose (faults host) (faults host') → ⊥
   pub of_out : Rose (faults' out) (faults' out') → ⊥
   pub of_err : Rose (faults'' err) (faults'' err') → ⊥
-
--- a line was written on a sink, or a front of it, and then the sink's count of faults rose
-pub record Tried (tells : Type 0) (line before after : List ℕ) (faults faults' : ℕ) : Type 0 where
-  pub part : ReceivedPart tells line before after
-  pub whole : Received tells line before after ⊎ Rose faults faults'
-
--- What was printed of a fault: its line, or with no memory for it the line of that. A line that isn't whole has status 7.
-pub record Printed (tells : Type 0) (before after : List ℕ) (task : TaskName) (inputs : List Ssp) (fault : RunFault) (status : ℕ) : Type 0 where
-  pub cause : RunFault
-  pub cause_is : (cause ≡ fault) ⊎ (cause ≡ NoMemory)
-  pub status_is : status ≢ 7 → status ≡ status_of cause
-  pub whole : status ≢ 7 → Received tells (line_of task inputs cause) before after
-  pub part : ReceivedPart tells (line_of task inputs cause) before after
 
 -- Well: the folder was run from its bytes before to those after, and `out` received the report of just that.
 pub record EndsWell {H W : Type 0} (tells heard : Type 0) (folder : H → Folder) (images : H → DiskName → Image → Type 0) (received : W → List ℕ) (host host' : H) (out out' : W) : Type 0 where

@@ -2,13 +2,9 @@ pub mod Causes
 pub mod ConfigText
 pub mod Configured
 pub mod Endings
-pub mod FaultText
 pub mod Leaves
 pub mod NotBuilt
-pub mod ReportText
 pub mod Reported
 pub mod Runs
 pub mod SetUp
 pub mod Stops
-pub mod Texts
-pub mod Words

@@ -1,7 +1,7 @@
 -- The status of a command before anything is printed.
 use Rattle.std.specs.Prelude.{ℕ, Result, Ok, Err}
-use Rattle.samza_container.specs.declared.faults.Stopped.{Stopped}
-use Rattle.samza_container.specs.Causes.{status_of}
+use Rattle.container_texts.specs.declared.faults.Stopped.{Stopped}
+use Rattle.container_texts.specs.Statuses.{status_of}
 
 abbrev pub stops_with : {A : Type 0} → Result A Stopped → ℕ
 stops_with (Ok x) = 0

@@ -1,13 +1,14 @@
 // From the text of a configuration to the configuration.
 ghost use Rattle.std.specs.Prelude.{◌≡◌, ◌≢◌, None, IfOk, IfErr, option_map};
 ghost use Rattle.job_config.specs.Bounds.{IsBounded};
-ghost use Rattle.samza_container.specs.Causes.{status_of, IsOfFolder};
+ghost use Rattle.container_texts.specs.Statuses.{status_of};
+ghost use Rattle.samza_container.specs.Causes.{IsOfFolder};
 ghost use Rattle.samza_container.specs.ConfigText.{IsAnswer, said_by};
 ghost use Rattle.samza_container.specs.Configured.{configured, if_built};
 ghost use Rattle.samza_container.specs.NotBuilt.{first_not_built};
 
-use crate::RunFault;
 use crate::not_built::first_not_built;
+use container_texts::RunFault;
 use job_config::{ConfigFault, JobConfig};
 use props_text::{PropsFault, read};
 use std::alloc::Global;

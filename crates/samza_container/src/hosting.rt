@@ -4,14 +4,14 @@ ghost use Rattle.samza_model.specs.Counters.{Rose};
 ghost use Rattle.disk_model.specs.Handles.{NoneOut, SameAt};
 ghost use Rattle.disk_model.specs.declared.names.DiskName.{DiskName as DiskNameValue};
 ghost use Rattle.unit_logs.specs.Standing.{IsSetUp};
-ghost use Rattle.samza_container.specs.Causes.{ends_with, status_of, TellsOf, WhyUnfinished};
+ghost use Rattle.samza_container.specs.Causes.{ends_with, TellsOf, WhyUnfinished};
+ghost use Rattle.container_texts.specs.Statuses.{status_of};
 ghost use Rattle.samza_container.specs.Leaves.{LeavesAt, RunLeaves};
 ghost use Rattle.samza_container.specs.Reported.{Reported};
 
-use crate::RunFault;
 use crate::faults::of_host;
-use crate::reports::TaskReport;
 use crate::running::run_on_disk;
+use container_texts::{RunFault, TaskReport};
 use disk_model::{DiskName, Host};
 use samza_model::{Job, Setup};
 use std::alloc::Global;

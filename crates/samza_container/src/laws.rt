@@ -3,8 +3,9 @@ ghost use Rattle.std.specs.Prelude.{◌≡◌, ◌≢◌, ℕ, List, None};
 ghost use Rattle.disk_model.specs.Folders.{Folder};
 ghost use Rattle.job_config.specs.declared.config.JobConfig.{JobConfig};
 ghost use Rattle.job_config.specs.Bounds.{IsBounded};
-ghost use Rattle.samza_container.specs.declared.faults.RunFault.{RunFault as RunFaultValue};
-ghost use Rattle.samza_container.specs.Causes.{Runnable, WhyStopped, status_of};
+ghost use Rattle.container_texts.specs.declared.faults.RunFault.{RunFault as RunFaultValue};
+ghost use Rattle.samza_container.specs.Causes.{Runnable, WhyStopped};
+ghost use Rattle.container_texts.specs.Statuses.{status_of};
 ghost use Rattle.unit_logs.specs.Standing.{IsSetUp};
 ghost use Rattle.samza_model.specs.Files.{Image};
 ghost use Rattle.samza_model.specs.Meaning.{Meaning};
@@ -12,7 +13,7 @@ ghost use Rattle.samza_model.specs.declared.setups.Setup.{Setup};
 ghost use Rattle.samza_container.specs.Runs.{CanRun, RanThrough};
 ghost use Rattle.samza_container.specs.NotBuilt.{first_not_built};
 ghost use Rattle.samza_container.specs.SetUp.{setup_of};
-ghost use Rattle.samza_container.specs.Words.{IsCommand};
+ghost use Rattle.container_texts.specs.Words.{IsCommand};
 
 use disk_model::Disk;
 

@@ -5,15 +5,16 @@ ghost use Rattle.disk_model.specs.Handles.{AsMany, SameAt};
 ghost use Rattle.disk_model.specs.declared.names.DiskName.{DiskName as DiskNameValue};
 ghost use Rattle.job_config.specs.Bounds.{IsBounded};
 ghost use Rattle.unit_logs.specs.Standing.{IsSetUp};
-ghost use Rattle.samza_container.specs.Causes.{ends_with, status_of, HasEntered, IsOfFolder, IsReady, WhyNotOne, WhyNotReady};
+ghost use Rattle.samza_container.specs.Causes.{ends_with, HasEntered, IsOfFolder, IsReady, WhyNotOne, WhyNotReady};
+ghost use Rattle.container_texts.specs.Statuses.{status_of};
 ghost use Rattle.samza_container.specs.Configured.{configured, input_disk};
 ghost use Rattle.samza_container.specs.NotBuilt.{first_not_built};
 ghost use Rattle.shipped_jobs.specs.WordCount.{word_count};
 
-use crate::RunFault;
 use crate::config_text::folder_config;
 use crate::faults::of_host;
 use crate::setups::{input_of, setup_of};
+use container_texts::RunFault;
 use disk_model::Host;
 use job_config::JobConfig;
 use samza_model::{Bin, Setup};

@@ -9,14 +9,13 @@ ghost use Rattle.disk_model.specs.Images.{LeavesOnly};
 ghost use Rattle.unit_logs.specs.Standing.{IsSetUp};
 ghost use Rattle.output_log.specs.Outputs.{cleared_at};
 ghost use Rattle.task_unit.specs.Units.{IsFailed, NothingUnlogged};
-ghost use Rattle.samza_container.specs.Causes.{ends_with, status_of, TellsOf, WhyNotFinished, WhyUnfinished};
+ghost use Rattle.samza_container.specs.Causes.{ends_with, TellsOf, WhyNotFinished, WhyUnfinished};
+ghost use Rattle.container_texts.specs.Statuses.{status_of};
 ghost use Rattle.samza_container.specs.Leaves.{FinishLeaves, RunLeaves};
 ghost use Rattle.samza_container.specs.Reported.{FinishesAs, FinishesWith, Reported};
 ghost use Rattle.samza_container.specs.Runs.{Advances};
 
-use crate::RunFault;
-use crate::reports::TaskReport;
-use crate::unit_reports::task_report;
+use container_texts::{RunFault, TaskReport, task_report};
 use disk_model::{Disk, Shelf};
 use samza_model::{Job, Setup};
 use std::alloc::Global;

@@ -2,7 +2,8 @@ use Rattle.std.proofs.Common.{ℕ, List, inl, inr, refl, sym, ◌∙◌, ap, sub
 use Rattle.samza_model.specs.Files.{Image}
 use Rattle.disk_model.specs.Images.{LeavesOnly}
 use Rattle.disk_model.proofs.Laws.{same_at_trans}
-use Rattle.samza_container.specs.Causes.{ends_with, status_of, WhyUnfinished}
+use Rattle.samza_container.specs.Causes.{ends_with, WhyUnfinished}
+use Rattle.container_texts.specs.Statuses.{status_of}
 use Rattle.samza_container.specs.Leaves.{RunLeaves}
 use Rattle.samza_container.specs.Reported.{Reported}
 use Rattle.samza_container.proofs.Leaving.{given_back, nothing_left, reads_back, untouched}

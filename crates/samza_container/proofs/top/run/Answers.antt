@@ -3,18 +3,19 @@ use Rattle.std.specs.Prelude.{map, string_bytes}
 use Rattle.samza_model.specs.Files.{Image}
 use Rattle.disk_model.proofs.Laws.{same_at_trans}
 use Rattle.shipped_jobs.specs.WordCount.{word_count}
-use Rattle.samza_container.specs.Causes.{WhyUnfinished, status_of}
+use Rattle.samza_container.specs.Causes.{WhyUnfinished}
+use Rattle.container_texts.specs.Statuses.{status_of}
 use Rattle.samza_container.specs.Configured.{input_disk, task_disk}
 use Rattle.samza_container.specs.Leaves.{FolderLeaves, RunLeaves}
 use Rattle.samza_container.specs.Reported.{IsCause, Reported}
 use Rattle.samza_container.specs.Stops.{stops_with}
-use Rattle.samza_container.specs.declared.faults.RunFault.{RunFault}
+use Rattle.container_texts.specs.declared.faults.RunFault.{RunFault}
 use Rattle.samza_container.proofs.Ending.{folder_status, task_status}
 use Rattle.samza_container.proofs.Leaving.{leaves_more, same_then}
 use Rattle.samza_container.proofs.Naming.{of_folder, of_task}
 use Rattle.samza_container.proofs.Told.{if_err, if_err_four, if_ok, never_two}
 use Rattle.samza_container.proofs.Exact.{not_words}
-use Rattle.samza_container.proofs.Wording.{refused_at}
+use Rattle.container_texts.proofs.Laws.{refused_at}
 use Rattle.samza_container.proofs.top.run.Goals as goal
 
 pub returns-in-Ok-prepare-clause-others : goal.returns-in-Ok-prepare-clause-others

@@ -1,10 +1,10 @@
 use Rattle.std.proofs.Common.{[], inl, inr, refl, subst, sym, ◌∙◌}
 use Rattle.std.proofs.lemmas.Bool.{cases_eq}
 use Rattle.std.specs.Prelude.{map, string_bytes}
-use Rattle.samza_container.specs.Causes.{status_of}
+use Rattle.container_texts.specs.Statuses.{status_of}
 use Rattle.samza_container.specs.Configured.{task_disk}
 use Rattle.samza_container.specs.Leaves.{FolderLeaves, MayCommit}
-use Rattle.samza_container.specs.declared.faults.RunFault.TheVariants.{NoMemory}
+use Rattle.container_texts.specs.declared.faults.RunFault.TheVariants.{NoMemory}
 use Rattle.samza_container.proofs.Ending.{leaves_as, may_eight, may_seven, printed_as, printed_cause, printed_may}
 use Rattle.samza_container.proofs.Exact.{not_stopped}
 use Rattle.samza_container.proofs.Leaving.{leaves_more}

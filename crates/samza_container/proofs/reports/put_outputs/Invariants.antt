@@ -1,7 +1,0 @@
-use Rattle.std.proofs.Common.{◌≡◌, ◌++◌, drop}
-use Rattle.std.specs.List.{flat_map}
-use Rattle.samza_container.specs.ReportText.{output_line}
-use Rattle.samza_container.proofs.reports.put_outputs.Given as goal
-
-abbrev pub invariant-loop-output : goal.invariant-loop-output
-invariant-loop-output l = l.text ++ flat_map output_line (drop l.output-index l.outputs) ≡ l.fn.text ++ flat_map output_line l.outputs

@@ -1,7 +1,0 @@
-use Rattle.std.proofs.Common.{◌≡◌, ◌++◌, drop}
-use Rattle.std.specs.List.{flat_map}
-use Rattle.samza_container.specs.ReportText.{store_line}
-use Rattle.samza_container.proofs.reports.put_stores.Given as goal
-
-abbrev pub invariant-loop-store : goal.invariant-loop-store
-invariant-loop-store l = l.text ++ flat_map store_line (drop l.store-index l.stores) ≡ l.fn.text ++ flat_map store_line l.stores
