@@ -11,7 +11,7 @@ use checkpoint_log::last;
 use disk_model::{Disk, DiskName, Host, MemDisk, MemHost};
 use log_frame::{Frame, frames_of};
 use samza_model::{Bin, Items, NoMemory, Plain, Record};
-use slow_model::spell_log;
+use slow_logs::spell_log;
 use std::alloc::Global;
 use std::test::Fail;
 use test_kit::{Row, record, records, removal, set};

@@ -1,4 +1,3 @@
 mod Acts
 mod Folded
-mod Marks
 mod Runs

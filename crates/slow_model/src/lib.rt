@@ -4,12 +4,10 @@
 
 mod ends;
 mod replays;
-mod spellings;
 mod states;
 mod turns;
 
 pub use ends::end_at;
 pub use replays::replay;
-pub use spellings::{spell_checkpoint, spell_log};
 pub use states::PlainState;
 pub use turns::{fold_all, run_one};

@@ -1,7 +1,7 @@
 use Rattle.std.proofs.Common.{◌≡◌, [], ◌∷◌, ◌++◌, List, ◌∙◌, ap}
 use Rattle.samza_model.specs.declared.messages.Record.{Record}
-use Rattle.slow_model.proofs.Marks.{file_ends}
-use Rattle.slow_model.proofs.spellings.spell_checkpoint.Goals as goal
+use Rattle.slow_logs.proofs.Marks.{file_ends}
+use Rattle.slow_logs.proofs.spellings.spell_checkpoint.Goals as goal
 
 pub returns-clause-ends : goal.returns-clause-ends
 returns-clause-ends c =
