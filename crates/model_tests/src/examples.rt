@@ -106,7 +106,11 @@ fn blank(alloc: Global) -> Result<PlainState, NoMemory> {
 }
 
 /// Whether the state has one store, with just these pairs.
-fn holds(alloc: Global, state: &PlainState, pairs: &[(&str, &str)]) -> Result<bool, NoMemory> {
+pub(crate) fn holds(
+    alloc: Global,
+    state: &PlainState,
+    pairs: &[(&str, &str)],
+) -> Result<bool, NoMemory> {
     match state.stores() {
         [table] => has_pairs(alloc, table, pairs),
         _ => Ok(false),
@@ -114,7 +118,7 @@ fn holds(alloc: Global, state: &PlainState, pairs: &[(&str, &str)]) -> Result<bo
 }
 
 /// Whether the state has one output, which was sent these, the oldest first.
-fn sent(state: &PlainState, want: &[(&str, Option<&str>)]) -> bool {
+pub(crate) fn sent(state: &PlainState, want: &[(&str, Option<&str>)]) -> bool {
     match state.sent() {
         [records] => are_records(records.as_slice(), want),
         _ => false,
@@ -190,7 +194,7 @@ fn a_message_without_value_ends_with_code_1(rt: HostRuntime) -> Result<(), Fail>
 }
 
 /// The word `w` so many times.
-fn words(alloc: Global, count: usize) -> Result<Bin, NoMemory> {
+pub(crate) fn words(alloc: Global, count: usize) -> Result<Bin, NoMemory> {
     let mut text = Vec::new(alloc);
     for _ in 0..count {
         text.extend_from_slice(b"w ")?;
@@ -226,7 +230,7 @@ fn put(alloc: Global, state: &mut PlainState, key: &str, value: &str) -> Result<
     let key = bin(alloc, key)?;
     let value = bin(alloc, value)?;
     let store = 0;
-    state.make(alloc, Act::Put { store, key, value })
+    state.make(Act::Put { store, key, value })
 }
 
 /// A state in which (b, 1), (d, 2) and (b, 3) were put.
@@ -298,7 +302,7 @@ fn an_act_is_answered_from_what_the_earlier_ones_left(rt: HostRuntime) -> Result
 fn a_deleted_key_is_gone(rt: HostRuntime) -> Result<(), Fail> {
     let mut state = two_keys(rt.alloc())?;
     let key = bin(rt.alloc(), "b")?;
-    state.make(rt.alloc(), Act::Delete { store: 0, key })?;
+    state.make(Act::Delete { store: 0, key })?;
     assert!(rt; holds(rt.alloc(), &state, &[("d", "2")])?);
     Ok(())
 }

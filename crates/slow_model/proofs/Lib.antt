@@ -1,3 +1,7 @@
 mod Acts
+mod Delivered
+mod Flown
 mod Folded
+mod Kept
 mod Runs
+mod Stepped

@@ -1,6 +1,10 @@
-pub use Rattle.samza_model.specs.Checkpoint
 pub use Rattle.samza_model.specs.Content
+pub use Rattle.samza_model.specs.Events
+pub use Rattle.samza_model.specs.Journals
+pub use Rattle.samza_model.specs.Lawful
 pub use Rattle.samza_model.specs.Limits
-pub use Rattle.samza_model.specs.Logs
-pub use Rattle.samza_model.specs.Restored
+pub use Rattle.samza_model.specs.Partition
+pub use Rattle.samza_model.specs.Requests
 pub use Rattle.samza_model.specs.Runs
+pub mod Steps
+pub mod Tasks

@@ -99,7 +99,7 @@ impl PlainState {
         Ok(())
     }
 
-    fn send(&mut self, alloc: Global, output: u32, body: Record) -> Result<(), NoMemory>
+    fn send(&mut self, output: u32, body: Record) -> Result<(), NoMemory>
         ensures { OnOk result
             (self.new ≡ record {
               stores = self.old.stores;
@@ -109,21 +109,19 @@ impl PlainState {
     {
         let number = output as usize;
         if number < self.sent.len() {
-            let mut records = self.sent[number].copy(alloc)?.into_vec();
-            records.push(body)?;
-            self.sent[number] = Items::from_vec(records);
+            self.sent[number].push(body)?;
         }
         Ok(())
     }
 
     /// Makes an act. One on a store or an output that isn't there does nothing.
-    pub fn make(&mut self, alloc: Global, act: Act) -> Result<(), NoMemory>
+    pub fn make(&mut self, act: Act) -> Result<(), NoMemory>
         ensures { OnOk result (self.new ≡ changed self.old act) }
     {
         match act {
             Act::Put { store, key, value } => self.set(store, key, Some(value)),
             Act::Delete { store, key } => self.set(store, key, None),
-            Act::Send { output, body } => self.send(alloc, output, body),
+            Act::Send { output, body } => self.send(output, body),
             _ => Ok(()),
         }
     }

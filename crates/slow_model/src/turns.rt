@@ -27,7 +27,7 @@ fn run_on<J: Job>(
         return Ok(Some(Why::TooMany));
     }
     answers.push(state.answer_to(alloc, &act)?)?;
-    state.make(alloc, act)?;
+    state.make(act)?;
     run_on(alloc, job, setup, envelope, left - 1, state, answers)
 }
 
