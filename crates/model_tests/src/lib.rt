@@ -5,4 +5,8 @@
 #[cfg(test)]
 mod examples;
 #[cfg(test)]
+mod histories;
+#[cfg(test)]
+mod requests;
+#[cfg(test)]
 mod word_counts;
