@@ -98,11 +98,8 @@ fn records_leave_their_last_values(rt: HostRuntime) -> Result<(), Fail> {
 }
 
 fn blank(alloc: Global) -> Result<PlainState, NoMemory> {
-    let mut stores = Vec::new(alloc);
-    stores.push(Table::new(alloc))?;
-    let mut sent = Vec::new(alloc);
-    sent.push(Items::from_vec(Vec::new(alloc)))?;
-    Ok(PlainState::of(stores, sent))
+    let setup = setup(alloc)?;
+    slow_model::blank(alloc, &setup)
 }
 
 /// Whether the state has one store, with just these pairs.

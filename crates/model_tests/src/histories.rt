@@ -503,6 +503,39 @@ fn a_window_acts_while_nothing_is_in_flight_or_failed(rt: HostRuntime) -> Result
     Ok(())
 }
 
+/// The failure of a callback that was delivered at moment 7, with such a timeout, at a later moment.
+fn expired(
+    alloc: Global,
+    timeout: Option<u64>,
+    number: u64,
+    now: u64,
+) -> Result<Option<Failure>, NoMemory> {
+    let mut task = task(alloc, 1, 8, &[Some("a")])?;
+    task.setup.timeout_ms = timeout;
+    let mut events = Vec::new(alloc);
+    deliver(alloc, &task, &mut events, 0)?;
+    task.expired(alloc, events.as_slice(), number, now)
+}
+
+#[test]
+fn a_callback_runs_out_of_time_at_its_timeout(rt: HostRuntime) -> Result<(), Fail> {
+    for (timeout, number, now) in [(Some(100), 0, 106), (Some(100), 1, 107), (None, 0, 107)] {
+        let found = expired(rt.alloc(), timeout, number, now)?;
+        assert!(rt; found.is_none(), "callback {number} at {now}");
+    }
+    let found = expired(rt.alloc(), Some(100), 0, 107)?;
+    let failure = Failure {
+        turn: Turn::Call(0),
+        place: Some((0, 0)),
+        why: Why::Expired {
+            delivered: 7,
+            now: 107,
+        },
+    };
+    assert!(rt; found == Some(failure));
+    Ok(())
+}
+
 /// A message of the word `w`, so many times.
 fn long_task(alloc: Global, count: usize) -> Result<PlainTask<WordCount>, NoMemory> {
     let value = words(alloc, count)?;

@@ -1,5 +1,6 @@
 mod Acts
 mod Delivered
+mod Expired
 mod Flown
 mod Kept
 mod Stepped

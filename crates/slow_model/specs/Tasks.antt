@@ -1,14 +1,16 @@
 -- A task whose job and partitions are told, from empty stores and nothing sent on; and what of it is looked at for its next event.
-use Rattle.std.specs.Prelude.{ℕ, ◌+◌, ◌≡◌, ◌&&◌, List, [], length, map, Option, Some, None, Bool, not, nat_lt, is_none, if◌then◌else◌}
+use Rattle.std.specs.Prelude.{ℕ, ◌+◌, ◌-◌, ◌≡◌, ◌&&◌, List, [], length, map, Option, Some, None, Bool, false, not, nat_le, nat_lt, is_none, if◌then◌else◌}
 use Rattle.std.specs.Option.{option_map}
 use Rattle.samza_model.specs.declared.messages.Record.{Record}
+use Rattle.samza_model.specs.declared.turns.Why.TheVariants.{Expired}
+use Rattle.samza_model.specs.declared.turns.Failure.{Failure}
 use Rattle.samza_model.specs.declared.setups.Setup.{Setup}
 use Rattle.samza_model.specs.declared.flights.Flight.{Flight}
 use Rattle.samza_model.specs.declared.events.Event.{Event}
 use Rattle.samza_model.specs.declared.events.Event.TheVariants.{Deliver}
 use Rattle.samza_model.specs.Content.{State, nothing_stored}
 use Rattle.samza_model.specs.Events.{flights, deliveries, deliveries_of, low, first_failure, window_open, window_answers, state_after}
-use Rattle.samza_model.specs.Lawful.{Given, MayDeliver, MayWindow, call_event, window_event, course}
+use Rattle.samza_model.specs.Lawful.{Given, MayDeliver, MayExpire, MayWindow, call_event, window_event, course, failure_of}
 use Rattle.samza_model.specs.Meaning.{Meaning}
 use Rattle.samza_model.specs.Partition.{Partition, message}
 use Rattle.slow_model.specs.declared.tasks.PlainInput.{PlainInput}
@@ -73,3 +75,16 @@ abbrev pub next_window : Meaning → Setup → List Event → Event
 next_window job s g = window_event (window_answers g) (state_after (blank s) g)
     (job.window (window_answers g))
     (course s (length (window_answers g)) (job.window (window_answers g)))
+
+-- no callback of this number ran out of time at this moment
+abbrev pub NoExpiry : Given → List Event → ℕ → ℕ → Type 0
+NoExpiry k g n now = (f : Failure) (may : MayExpire k g n f) → may.now ≡ now → ⊥
+
+abbrev pub is_late : Option ℕ → ℕ → Bool
+is_late None passed = false
+is_late (Some limit) passed = nat_le limit passed
+
+-- the failure of a callback at this moment, where its time ran out
+abbrev pub expiry : Setup → ℕ → Flight → Option Failure
+expiry s now f = if is_late s.timeout_ms (now - f.delivered)
+    then Some (failure_of f (Expired f.delivered now)) else None

@@ -1,10 +1,10 @@
 // A task whose job and partitions are told, and its next event.
-ghost use Rattle.std.specs.Prelude.{◌≡◌, ◌+◌, ◌<◌, ◌^◌, [], IfOk, MatchOption, length, map, nat_lt};
+ghost use Rattle.std.specs.Prelude.{◌≡◌, ◌+◌, ◌-◌, ◌<◌, ◌^◌, [], IfOk, MatchOption, length, map, nat_lt, option_and_then};
 ghost use Rattle.samza_model.specs.Content.{answer_of, nothing_stored};
 ghost use Rattle.samza_model.specs.Events.{deliveries_of, flight_of, flights, low, state_after};
-ghost use Rattle.samza_model.specs.Lawful.{MayAct, MayWindow, call_event, course, failure_of, window_event, window_failure};
+ghost use Rattle.samza_model.specs.Lawful.{MayAct, MayExpire, MayWindow, call_event, course, failure_of, window_event, window_failure};
 ghost use Rattle.samza_model.specs.Partition.{message};
-ghost use Rattle.slow_model.specs.Tasks.{IsDelivery, NoDelivery, NoWindow, begins, blank, given_of, is_quiet, next_act, next_delivery, next_window, part_of};
+ghost use Rattle.slow_model.specs.Tasks.{IsDelivery, NoDelivery, NoExpiry, NoWindow, begins, blank, expiry, given_of, is_late, is_quiet, next_act, next_delivery, next_window, part_of};
 
 use crate::flights::{flight_at, flights_of};
 use crate::lows::{deliveries, deliveries_of, low_behind};
@@ -189,6 +189,44 @@ fn failure_of(flight: &Flight, why: Why) -> Failure
     }
 }
 
+/// Whether so much time is all that a callback has, or more.
+fn is_late(limit: Option<u64>, passed: u64) -> bool
+    ensures { result ≡ is_late limit passed }
+{
+    match limit {
+        Some(limit) => limit <= passed,
+        None => false,
+    }
+}
+
+/// The failure of a callback at this moment, where its time ran out.
+fn expiry(setup: &Setup, now: u64, flight: &Flight) -> Option<Failure>
+    ensures { result ≡ expiry setup.now now flight.now }
+{
+    let delivered = flight.delivered;
+    if !is_late(setup.timeout_ms, now.saturating_sub(delivered)) {
+        return None;
+    }
+    Some(failure_of(flight, Why::Expired { delivered, now }))
+}
+
+/// The same of the callback with this number, where it is in flight.
+fn expiry_at(
+    alloc: Global,
+    setup: &Setup,
+    events: &[Event],
+    number: u64,
+    now: u64,
+) -> Result<Option<Failure>, NoMemory>
+    ensures { IfOk result (λ found. found ≡ option_and_then (expiry setup.now now)
+        (flight_of number (flights setup.now events.now))) }
+{
+    match flight_at(alloc, setup, events, number)? {
+        Some(flight) => Ok(expiry(setup, now, &flight)),
+        None => Ok(None),
+    }
+}
+
 /// What an act makes of a callback.
 fn call_event(
     alloc: Global,
@@ -319,5 +357,21 @@ impl<J: Job> PlainTask<J> {
             return Ok(None);
         }
         Ok(Some(self.act_of_window(alloc, events)?))
+    }
+
+    /// The failure of the callback with this number at this moment; none where it isn't in flight or has time left.
+    pub fn expired(
+        &self,
+        alloc: Global,
+        events: &[Event],
+        number: u64,
+        now: u64,
+    ) -> Result<Option<Failure>, NoMemory>
+        ensures { let given = given_of (J.meaning (J.plain self.now.job)) self.now.setup
+            self.now.inputs in IfOk result
+            (λ found. MatchOption found (NoExpiry given events.now number now)
+            (MayExpire given events.now number)) }
+    {
+        expiry_at(alloc, &self.setup, events, number, now)
     }
 }
