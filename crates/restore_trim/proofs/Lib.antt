@@ -1,12 +1,12 @@
 mod Cutting
 mod Exact
 mod Growing
-pub mod Laws
 mod Logs
 mod Openings
 mod Others
 mod Outcomes
 mod Places
+pub mod Shared
 mod SoFar
 mod Tails
 mod Taking

@@ -12,7 +12,7 @@ use Rattle.samza_model.specs.Restored.{Restores, count_at, next_at, start_of}
 use Rattle.changelog.specs.Folds.{reverts_of}
 use Rattle.topic_log.specs.Growth.{Passes}
 use Rattle.restore_trim.specs.Refused.{StoresOpen}
-use Rattle.restore_trim.proofs.Laws.{cut_unique}
+use Rattle.restore_trim.proofs.Shared.{cut_unique}
 use Rattle.topic_log.proofs.Laws.{frames_unique}
 use Rattle.unit_logs.specs.Growth.{PassesLimit}
 use Rattle.restore_trim.specs.Crashes.{OpeningLeaves}

@@ -21,7 +21,7 @@ use Rattle.unit_logs.specs.Held.{Held, contents_of}
 use Rattle.unit_logs.specs.Standing.{OnDisk}
 use Rattle.task_unit.specs.Units.{LogsStay, AreWhole}
 use Rattle.topic_log.proofs.Laws.{frames_unique, joined-append, log_unique}
-use Rattle.restore_trim.proofs.Laws.{has_frames}
+use Rattle.restore_trim.proofs.Shared.{has_frames}
 use Rattle.unit_logs.proofs.Laws.{open_has, content_at}
 
 -- what was restored, told with equal parts

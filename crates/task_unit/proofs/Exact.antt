@@ -9,7 +9,7 @@ use Rattle.samza_model.specs.Partition.{partition_of}
 use Rattle.samza_model.proofs.Laws.{start_in}
 use Rattle.samza_model.specs.Restored.{count_at, next_at, start_of, fallback_start, EndsWith, HasMark, IsMarked, IsNamed}
 use Rattle.topic_log.proofs.Laws.{frames_unique, log_unique}
-use Rattle.restore_trim.proofs.Laws.{outputs_of, ends_one, none_ends, marked_one}
+use Rattle.restore_trim.proofs.Shared.{outputs_of, ends_one, none_ends, marked_one}
 use Rattle.checkpoint_log.specs.Ends.{IsBadEnd}
 use Rattle.restore_trim.specs.declared.faults.OpenFault.{OpenFault}
 use Rattle.restore_trim.specs.declared.faults.OpenFault.TheVariants.{Device, Damaged, Shape, Ahead, Limit, NoMemory}

@@ -1,9 +1,9 @@
 mod Begun
 mod Exact
 mod Flushed
-pub mod Laws
 mod Made
 mod OneCause
+pub mod Shared
 mod TakingBack
 mod Touching
 mod Turns

@@ -16,7 +16,7 @@ use Rattle.restore_trim.specs.declared.faults.OpenFault.TheVariants.{Device, Dam
 use Rattle.restore_trim.specs.Refused.{EndsBadly, HasChanges, HasOtherNames, OutputsRefused, RevertPasses, StoresRefused, WhyNoFile, WhyNoMark, WhyNoStore, WhyRefused}
 use Rattle.task_unit.specs.Inputs.{WhyNoInput}
 use Rattle.task_unit.specs.Units.{InputRefused, IsPastEnd, WhyNotOpened, input_of}
-use Rattle.restore_trim.proofs.Laws.{marked_one}
+use Rattle.restore_trim.proofs.Shared.{marked_one}
 use Rattle.task_unit.proofs.Exact.{changes_one, has_file, has_input, has_mark, has_store, has_stores, not_refused}
 
 -- a fault that is one of these two is free of a cause

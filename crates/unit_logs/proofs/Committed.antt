@@ -18,7 +18,7 @@ use Rattle.unit_logs.specs.Held.{IsSized, Held, tracked_at, contents_of}
 use Rattle.unit_logs.specs.Appending.{AreOpen}
 use Rattle.unit_logs.specs.Planned.{PlansCommit}
 use Rattle.restore_trim.specs.Standing.{IsOpenAt}
-use Rattle.restore_trim.proofs.Laws.{open_has as open_frames}
+use Rattle.restore_trim.proofs.Shared.{open_has as open_frames}
 use Rattle.unit_logs.specs.Standing.{MarkStands, OnDisk}
 use Rattle.unit_logs.specs.Written.{AreWritten, StandOpen}
 use Rattle.unit_logs.proofs.Holding.{content_at}

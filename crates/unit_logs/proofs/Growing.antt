@@ -18,7 +18,7 @@ use Rattle.unit_logs.specs.Growth.{IsNextMark, PassesLimit}
 use Rattle.unit_logs.specs.Planned.{PlansCommit, batch_at}
 use Rattle.unit_logs.specs.Standing.{OnDisk}
 use Rattle.unit_logs.specs.Written.{Reaches, IsNoRoomFor}
-use Rattle.restore_trim.proofs.Laws.{lacks_passes, has_passes, cut_passes}
+use Rattle.restore_trim.proofs.Shared.{lacks_passes, has_passes, cut_passes}
 use Rattle.unit_logs.proofs.Committed.{id_was, open_has}
 use Rattle.unit_logs.proofs.Holding.{unlogged_is}
 use Rattle.unit_logs.proofs.MarkSizes.{marks_long}

@@ -14,7 +14,7 @@ use Rattle.unit_logs.specs.Crashes.{HaveFrames, AreFramesOf, AppendsEach, TaskFr
 use Rattle.restore_trim.specs.Standing.{IsOpenAt}
 use Rattle.unit_logs.specs.declared.writing.Logs.{Logs}
 use Rattle.unit_logs.proofs.Appended.{AppendedSoFar, open_at}
-use Rattle.restore_trim.proofs.Laws.{lies_outside, same_has, has_frames}
+use Rattle.restore_trim.proofs.Shared.{lies_outside, same_has, has_frames}
 use Rattle.unit_logs.proofs.Kept.{below_stays, output_stays, mark_stays}
 
 -- some item of a list that has one

@@ -26,7 +26,7 @@ use Rattle.restore_trim.specs.Standing.{IsOpenAt}
 use Rattle.unit_logs.specs.Standing.{OnDisk}
 use Rattle.unit_logs.specs.Commits.{IsFollowed, IsCommitted, IsUncommitted, LeavesMade, CommitLeaves}
 use Rattle.unit_logs.specs.Written.{AreWritten}
-use Rattle.restore_trim.proofs.Laws.{open_has as open_frames, log_of, has_frames}
+use Rattle.restore_trim.proofs.Shared.{open_has as open_frames, log_of, has_frames}
 use Rattle.unit_logs.proofs.Committed.{id_was}
 use Rattle.unit_logs.proofs.Holding.{content_at, unlogged_is}
 
