@@ -49,7 +49,7 @@ pub(crate) struct Started {
 }
 
 /// The input's message at an offset, with its place.
-#[tactic(auto, using(samza_model::proofs::Partitions::message_in))]
+#[tactic(auto, using(samza_model::proofs::Laws::message_in))]
 pub(crate) fn envelope_at(
     alloc: Global,
     setup: &Setup,
@@ -97,7 +97,7 @@ fn logs_of(alloc: Global, changelogs: Items<Changelog>) -> Result<Vec<Log>, NoMe
 }
 
 /// An input's first offset: the kept one, unless there is none or the input is reset.
-#[tactic(auto, using(samza_model::proofs::Partitions::start_in, samza_model::proofs::Partitions::end_in))]
+#[tactic(auto, using(samza_model::proofs::Laws::start_in, samza_model::proofs::Laws::end_in))]
 fn first_offset(kept: Option<u64>, input: &InputSetup, end: u64) -> Result<u64, OpenFault>
     ensures start { IfOk result (λ n. (records : List RecordValue) → end ≡ length records
         → n ≡ start_of kept input.now (partition_of records)) }
