@@ -1,0 +1,7 @@
+pub mod Cores
+pub mod Held
+pub mod Lanes
+pub mod Laws
+pub mod Places
+pub mod Setups
+pub mod Times

@@ -1,0 +1,4 @@
+mod Failing
+pub mod Undone
+pub mod Trimming
+mod Noted

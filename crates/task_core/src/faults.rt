@@ -1,0 +1,90 @@
+// Why a core refuses.
+
+use samza_model::{Answer, Items, NoMemory};
+
+/// Why no message was delivered.
+#[derive(Clone, Copy, Debug, PartialEq, Eq)]
+pub enum DeliverFault {
+    Failed,
+    Windowing,
+    Ended,
+    Full,
+    Spanned,
+    NoMemory,
+}
+
+impl From<NoMemory> for DeliverFault {
+    ghost use Rattle.std.specs.Prelude.{◌≡◌};
+    ghost use Rattle.task_core.specs.declared.faults.DeliverFault.TheVariants.{NoMemory as NoRoom};
+
+    ghost from_gives = { λ _ e. e ≡ NoRoom };
+
+    fn from(_: NoMemory) -> Self {
+        DeliverFault::NoMemory
+    }
+}
+
+/// Why the next act of a callback wasn't made.
+#[derive(Clone, Copy, Debug, PartialEq, Eq)]
+pub enum ActFault {
+    /// No callback with this number is in flight.
+    Unknown,
+    NoMemory,
+}
+
+impl From<NoMemory> for ActFault {
+    ghost use Rattle.std.specs.Prelude.{◌≡◌};
+    ghost use Rattle.task_core.specs.declared.faults.ActFault.TheVariants.{NoMemory as NoRoom};
+
+    ghost from_gives = { λ _ e. e ≡ NoRoom };
+
+    fn from(_: NoMemory) -> Self {
+        ActFault::NoMemory
+    }
+}
+
+/// Why there is no question.
+#[derive(Clone, Copy, Debug, PartialEq, Eq)]
+pub enum QuestionFault {
+    /// The callback isn't in flight, or no window is open.
+    Unknown,
+    NoMemory,
+}
+
+impl From<NoMemory> for QuestionFault {
+    ghost use Rattle.std.specs.Prelude.{◌≡◌};
+    ghost use Rattle.task_core.specs.declared.faults.QuestionFault.TheVariants.{NoMemory as NoRoom};
+
+    ghost from_gives = { λ _ e. e ≡ NoRoom };
+
+    fn from(_: NoMemory) -> Self {
+        QuestionFault::NoMemory
+    }
+}
+
+/// Why an act wasn't applied.
+#[derive(Debug, Drop)]
+pub enum ApplyFault {
+    Unknown,
+    Stale { answers: Items<Answer> },
+    NoMemory,
+}
+
+impl From<NoMemory> for ApplyFault {
+    ghost use Rattle.std.specs.Prelude.{◌≡◌};
+    ghost use Rattle.task_core.specs.declared.faults.ApplyFault.TheVariants.{NoMemory as NoRoom};
+
+    ghost from_gives = { λ _ e. e ≡ NoRoom };
+
+    fn from(_: NoMemory) -> Self {
+        ApplyFault::NoMemory
+    }
+}
+
+/// Why no window was opened.
+#[derive(Clone, Copy, Debug, PartialEq, Eq)]
+pub enum OpenWindowFault {
+    Failed,
+    Windowing,
+    Busy,
+}
