@@ -18,7 +18,7 @@ use Rattle.samza_model.specs.Partition.{envelopes}
 use Rattle.samza_model.proofs.Laws.{message_in}
 use Rattle.samza_model.specs.Runs.{End, runs, folds}
 use Rattle.kv_store.specs.Tracked.{Keys, no_keys, record_now, records_of}
-use Rattle.unit_logs.specs.Held.{unlogged_at}
+use Rattle.unit_logs.specs.Unlogged.{unlogged_at}
 use Rattle.task_unit.specs.Touched.{acts_of, touched, keys_in}
 use Rattle.task_unit.specs.Units.{IsMessage, NothingUnlogged, input_of}
 use Rattle.task_unit.proofs.Shared.{keys_in-records}

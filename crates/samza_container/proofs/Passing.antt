@@ -10,7 +10,7 @@ use Rattle.samza_model.specs.Meaning.{Meaning}
 use Rattle.topic_log.specs.Growth.{PassesBy}
 use Rattle.unit_logs.specs.Commits.{IsCommitted}
 use Rattle.unit_logs.specs.Growth.{PassesLimit}
-use Rattle.unit_logs.specs.Held.{unlogged_at}
+use Rattle.unit_logs.specs.Unlogged.{unlogged_at}
 use Rattle.unit_logs.specs.Planned.{batch_at}
 use Rattle.task_unit.specs.Units.{UnitValue, IsProcessed, NothingUnlogged}
 use Rattle.samza_container.specs.Runs.{AreChanges, Does, Advances, FillsFileFrom, FinishesFrom}

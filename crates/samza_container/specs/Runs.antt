@@ -16,7 +16,7 @@ use Rattle.samza_model.specs.Runs.{runs, folds}
 use Rattle.kv_store.specs.Tracked.{Keys, no_keys, records_of}
 use Rattle.unit_logs.specs.Commits.{IsCommitted}
 use Rattle.unit_logs.specs.Growth.{PassesLimit}
-use Rattle.unit_logs.specs.Held.{unlogged_at}
+use Rattle.unit_logs.specs.Unlogged.{unlogged_at}
 use Rattle.task_unit.specs.Touched.{acts_of, touched}
 use Rattle.restore_trim.specs.Refused.{StoresOpen}
 use Rattle.task_unit.specs.Units.{UnitValue, IsFailed, LogsStay, input_of}

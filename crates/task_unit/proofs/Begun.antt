@@ -17,7 +17,7 @@ use Rattle.restore_trim.specs.Standing.{IsRestored}
 use Rattle.topic_log.specs.declared.logs.Log.{Log}
 use Rattle.unit_logs.specs.declared.writing.Logs.{Logs}
 use Rattle.task_unit.specs.Acting.{KeepsClean}
-use Rattle.unit_logs.specs.Held.{Held, contents_of}
+use Rattle.core_steps.specs.Held.{Held, contents_of}
 use Rattle.unit_logs.specs.Standing.{OnDisk}
 use Rattle.task_unit.specs.Units.{LogsStay, AreWhole}
 use Rattle.topic_log.proofs.Laws.{frames_unique, joined-append, log_unique}

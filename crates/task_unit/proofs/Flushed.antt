@@ -10,7 +10,8 @@ use Rattle.std.proofs.lemmas.Bool.{cases_eq}
 use Rattle.samza_model.specs.Content.{Content, nothing_stored}
 use Rattle.kv_store.specs.Tracked.{Tracked, Keys, no_keys, record_now, unlogged_records}
 use Rattle.task_unit.specs.Held.{AreClean}
-use Rattle.unit_logs.specs.Held.{tracked_at, contents_of, unlogged_of, unlogged_at}
+use Rattle.core_steps.specs.Held.{tracked_at, contents_of}
+use Rattle.unit_logs.specs.Unlogged.{unlogged_of, unlogged_at}
 use Rattle.unit_logs.proofs.Laws.{content_at}
 
 -- what holds of each item below i holds of each below i + 1 where it holds of the i-th, which is set

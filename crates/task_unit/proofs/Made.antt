@@ -11,7 +11,7 @@ use Rattle.samza_model.specs.declared.acts.Answer.TheVariants.{Noted}
 use Rattle.samza_model.specs.Content.{Content, State, changed, answer_of, found, found_pair, next_pair, updated, store_at, nothing_stored}
 use Rattle.kv_store.specs.Tracked.{Tracked, with_change, AgreesOnClean, no_keys}
 use Rattle.kv_store.proofs.Laws.{AgreesOnClean-more}
-use Rattle.unit_logs.specs.Held.{Held, tracked_at, contents_of, state_of}
+use Rattle.core_steps.specs.Held.{Held, tracked_at, contents_of, state_of}
 use Rattle.unit_logs.proofs.Laws.{content_at}
 use Rattle.task_unit.specs.Acting.{with_stored, held_with_sent, KeepsClean}
 

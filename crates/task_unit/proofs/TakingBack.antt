@@ -8,7 +8,7 @@ use Rattle.task_unit.specs.declared.acting.Undone.{Undone}
 use Rattle.task_unit.specs.declared.acting.Undone.TheVariants.{Changed, Sent}
 use Rattle.task_unit.specs.Acting.{held_with_sent}
 use Rattle.task_unit.specs.Held.{taken_back, MayTake, LeadsTo}
-use Rattle.unit_logs.specs.Held.{Held, tracked_at}
+use Rattle.core_steps.specs.Held.{Held, tracked_at}
 use Rattle.samza_model.specs.Content.{sent_at, nothing_stored}
 
 pub reverse_push : {A : Type 0} (xs : List A) (x : A) → reverse (xs ++ x ∷ []) ≡ x ∷ reverse xs

@@ -19,7 +19,8 @@ use Rattle.samza_model.specs.Meaning.{Meaning}
 use Rattle.kv_store.specs.Tracked.{Keys, Tracked, no_keys, with_key, with_change, marked, set_of, record_now, records_of, unlogged_records}
 use Rattle.kv_store.proofs.Laws.{bytes_tell_apart}
 use Rattle.task_unit.specs.Acting.{with_stored, dirty_at, IsTouched, AreTouched}
-use Rattle.unit_logs.specs.Held.{Held, tracked_at, contents_of, unlogged_of, unlogged_at}
+use Rattle.core_steps.specs.Held.{Held, tracked_at, contents_of}
+use Rattle.unit_logs.specs.Unlogged.{unlogged_of, unlogged_at}
 use Rattle.task_unit.specs.Touched.{acts_on, with_act, touched, keys_in}
 use Rattle.task_unit.proofs.Made.{IsAside}
 use Rattle.unit_logs.proofs.Laws.{content_at}

@@ -11,7 +11,7 @@ use Rattle.task_unit.specs.declared.acting.Course.TheVariants.{GoesOn, Done, Fai
 use Rattle.task_unit.specs.declared.acting.Holdings.{Holdings}
 use Rattle.task_unit.specs.declared.acting.Undone.{Undone}
 use Rattle.task_unit.specs.Held.{LeadsTo}
-use Rattle.unit_logs.specs.Held.{Held, tracked_at}
+use Rattle.core_steps.specs.Held.{Held, tracked_at}
 
 abbrev pub held : Holdings → Held
 held h = record { stores = h.stores.items; unsent = h.outputs.unsent; cleared = h.outputs.cleared }

@@ -2,7 +2,7 @@
 use Rattle.std.specs.Prelude.{◌≡◌, ◌<◌, ◌-◌, All, List, [], ◌∷◌, length, take, slice_set}
 use Rattle.samza_model.specs.Content.{sent_at}
 use Rattle.kv_store.specs.Tracked.{Tracked, IsDirty, no_keys, undone}
-use Rattle.unit_logs.specs.Held.{Held, tracked_at}
+use Rattle.core_steps.specs.Held.{Held, tracked_at}
 use Rattle.task_unit.specs.declared.acting.Undone.{Undone}
 use Rattle.task_unit.specs.declared.acting.Undone.TheVariants.{Changed, Sent}
 

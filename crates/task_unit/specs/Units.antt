@@ -32,7 +32,8 @@ use Rattle.task_unit.specs.Inputs.{TellsInput, WhyNoInput}
 use Rattle.task_unit.specs.Touched.{acts_of, touched, keys_in}
 use Rattle.unit_logs.specs.Commits.{IsCommitted, LeavesMade, CommitLeaves}
 use Rattle.unit_logs.specs.Growth.{PassesLimit}
-use Rattle.unit_logs.specs.Held.{IsSized, unlogged_at}
+use Rattle.core_steps.specs.Held.{IsSized}
+use Rattle.unit_logs.specs.Unlogged.{unlogged_at}
 use Rattle.unit_logs.specs.Standing.{IsSetUp, OnDisk}
 use Rattle.unit_logs.specs.Written.{AreSound}
 

@@ -7,7 +7,7 @@ ghost use Rattle.samza_model.specs.Limits.{act_fits, key_fits, key_limit, value_
 ghost use Rattle.samza_model.specs.declared.acts.Act.{Act as ActValue};
 ghost use Rattle.samza_model.specs.Runs.{End, end_at, run_on, runs};
 ghost use Rattle.task_unit.specs.Acting.{held, undos_of, GoesBack, with_stored, held_with_sent, SameSizes, KeepsClean, IsTouched, AreTouched, end_seen};
-ghost use Rattle.unit_logs.specs.Held.{IsSized, Held, state_of, tracked_at};
+ghost use Rattle.core_steps.specs.Held.{IsSized, Held, state_of, tracked_at};
 ghost use Rattle.task_unit.specs.Touched.{acts_of};
 ghost use Rattle.samza_model.specs.declared.turns.Why.{Why};
 ghost use Rattle.task_unit.specs.Held.{taken_back, MayTake, LeadsTo};

@@ -17,7 +17,7 @@ ghost use Rattle.topic_log.specs.Opened.{count_of};
 ghost use Rattle.restore_trim.specs.Standing.{OthersStay};
 ghost use Rattle.output_log.specs.Outputs.{cleared_at};
 ghost use Rattle.task_unit.specs.Acting.{held, undos_of};
-ghost use Rattle.unit_logs.specs.Held.{IsSized, contents_of, state_of};
+ghost use Rattle.core_steps.specs.Held.{IsSized, contents_of, state_of};
 ghost use Rattle.task_unit.specs.Held.{AreClean};
 ghost use Rattle.task_unit.specs.Inputs.{TellsInput, WhyNoInput};
 ghost use Rattle.unit_logs.specs.Standing.{IsSetUp, OnDisk};

@@ -1,7 +1,7 @@
 // A commit: what is held is planned, and then nothing is dirty.
 ghost use Rattle.std.specs.Prelude.{◌≡◌, ◌<◌, ◌⊎◌, ℕ, length, IfOk, IfErr};
 ghost use Rattle.kv_store.specs.Tracked.{no_keys};
-ghost use Rattle.unit_logs.specs.Held.{IsSized, tracked_at, contents_of};
+ghost use Rattle.core_steps.specs.Held.{IsSized, tracked_at, contents_of};
 ghost use Rattle.unit_logs.specs.Planned.{PlansCommit};
 ghost use Rattle.unit_logs.specs.Standing.{IsSetUp};
 ghost use Rattle.unit_logs.specs.Written.{LacksRoomFor, Reaches};

@@ -66,7 +66,8 @@ pub struct OneUnit<'j, J: Job, D: Disk, S: Shelf> {
 impl<'j, J: Job, D: Disk, S: Shelf> Model for OneUnit<'j, J, D, S> {
     ghost use Rattle.std.specs.Coded.{codes};
     ghost use Rattle.task_unit.specs.Acting.{held};
-    ghost use Rattle.unit_logs.specs.Held.{state_of, unlogged_of};
+    ghost use Rattle.core_steps.specs.Held.{state_of};
+    ghost use Rattle.unit_logs.specs.Unlogged.{unlogged_of};
     ghost use Rattle.samza_model.specs.Content.{content_code};
     ghost use Rattle.task_unit.specs.Units.{UnitValue, IsUnit};
 

@@ -14,7 +14,7 @@ use Rattle.topic_log.specs.declared.logs.Log.{Log}
 use Rattle.topic_log.proofs.Laws.{joined-append}
 use Rattle.unit_logs.specs.declared.writing.Logs.{Logs}
 use Rattle.unit_logs.specs.declared.writing.Plan.{Plan}
-use Rattle.unit_logs.specs.Held.{IsSized, Held, tracked_at, contents_of}
+use Rattle.core_steps.specs.Held.{IsSized, Held, tracked_at, contents_of}
 use Rattle.unit_logs.specs.Appending.{AreOpen}
 use Rattle.unit_logs.specs.Planned.{PlansCommit}
 use Rattle.restore_trim.specs.Standing.{IsOpenAt}

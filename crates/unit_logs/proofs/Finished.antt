@@ -12,7 +12,8 @@ use Rattle.unit_logs.specs.declared.writing.Logs.{Logs}
 use Rattle.unit_logs.specs.declared.writing.Plan.{Plan}
 use Rattle.unit_logs.specs.Commits.{IsCommitted, LeavesMade, CommitLeaves}
 use Rattle.unit_logs.specs.Crashes.{TaskFrames, PlanRecords, StandWith, IsPlanOf, WriteLeaves}
-use Rattle.unit_logs.specs.Held.{Held, IsSized, state_of, unlogged_of}
+use Rattle.core_steps.specs.Held.{Held, IsSized, state_of}
+use Rattle.unit_logs.specs.Unlogged.{unlogged_of}
 use Rattle.unit_logs.specs.Planned.{PlansCommit}
 use Rattle.unit_logs.specs.Standing.{OnDisk}
 use Rattle.unit_logs.specs.Written.{AreWritten}

@@ -13,7 +13,8 @@ use Rattle.topic_log.proofs.Laws.{joined-append, log_unique}
 use Rattle.unit_logs.specs.declared.writing.Logs.{Logs}
 use Rattle.unit_logs.specs.declared.writing.Plan.{Plan}
 use Rattle.unit_logs.specs.declared.writing.Reach.{Reach}
-use Rattle.unit_logs.specs.Held.{IsSized, Held, unlogged_of, unlogged_at}
+use Rattle.core_steps.specs.Held.{IsSized, Held}
+use Rattle.unit_logs.specs.Unlogged.{unlogged_of, unlogged_at}
 use Rattle.unit_logs.specs.Growth.{IsNextMark, PassesLimit}
 use Rattle.unit_logs.specs.Planned.{PlansCommit, batch_at}
 use Rattle.unit_logs.specs.Standing.{OnDisk}

@@ -3,7 +3,8 @@ use Rattle.std.proofs.Common.{ℕ, ◌≡◌, ◌<◌, List, [], length, sym}
 use Rattle.std.proofs.lemmas.List.{get_or-map}
 use Rattle.samza_model.specs.Content.{store_at, nothing_stored}
 use Rattle.kv_store.specs.Tracked.{Tracked, no_keys, unlogged_records}
-use Rattle.unit_logs.specs.Held.{tracked_at, contents_of, unlogged_of, unlogged_at}
+use Rattle.core_steps.specs.Held.{tracked_at, contents_of}
+use Rattle.unit_logs.specs.Unlogged.{unlogged_of, unlogged_at}
 
 pub content_at : (stores : List Tracked) (i : ℕ) → i < length stores → store_at (contents_of stores) i ≡ (tracked_at stores i).content
 content_at stores i lt = get_or-map (λ (t : Tracked). t.content) stores i (record { content = nothing_stored; dirty = no_keys }) nothing_stored lt

@@ -12,7 +12,7 @@ use Rattle.log_frame.specs.Frame.{FrameView, AreFrames}
 use Rattle.topic_log.specs.declared.logs.Log.{Log}
 use Rattle.topic_log.specs.Opened.{count_of}
 use Rattle.topic_log.proofs.Laws.{are_counted, joined-append}
-use Rattle.unit_logs.specs.Held.{tracked_at}
+use Rattle.core_steps.specs.Held.{tracked_at}
 use Rattle.samza_model.specs.Restored.{mark_names, setup_names}
 use Rattle.unit_logs.specs.Planned.{batch_at, CountsBehind, LogsSends, PlansStore}
 

@@ -19,7 +19,8 @@ use Rattle.topic_log.specs.declared.logs.Log.{Log}
 use Rattle.topic_log.proofs.Laws.{joined-append, frames_unique, log_unique}
 use Rattle.unit_logs.specs.declared.writing.Logs.{Logs}
 use Rattle.unit_logs.specs.declared.writing.Plan.{Plan}
-use Rattle.unit_logs.specs.Held.{IsSized, Held, tracked_at, state_of, unlogged_of, unlogged_at}
+use Rattle.core_steps.specs.Held.{IsSized, Held, tracked_at, state_of}
+use Rattle.unit_logs.specs.Unlogged.{unlogged_of, unlogged_at}
 use Rattle.unit_logs.specs.Crashes.{TaskFrames, PlanRecords, StandWith, IsPlanOf, HasPart, HasAll, WriteLeaves}
 use Rattle.unit_logs.specs.Planned.{PlansCommit, batch_at}
 use Rattle.restore_trim.specs.Standing.{IsOpenAt}

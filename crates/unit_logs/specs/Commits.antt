@@ -12,7 +12,7 @@ use Rattle.samza_model.specs.Restored.{Restores, id_of, next_at, count_at, store
 use Rattle.log_frame.specs.Cuts.{IsCut}
 use Rattle.restore_trim.specs.Refused.{HasChanges}
 use Rattle.restore_trim.specs.Standing.{OthersStay}
-use Rattle.unit_logs.specs.Held.{unlogged_at}
+use Rattle.unit_logs.specs.Unlogged.{unlogged_at}
 use Rattle.unit_logs.specs.Planned.{batch_at}
 
 -- each of the first so many changelogs has as many records as the checkpoint counts

@@ -2,8 +2,8 @@ pub mod Appending
 pub mod Commits
 pub mod Crashes
 pub mod Growth
-pub mod Held
 pub mod Planned
 pub mod Room
 pub mod Standing
+pub mod Unlogged
 pub mod Written

@@ -17,7 +17,7 @@ use Rattle.topic_log.specs.declared.logs.Log.{Log}
 use Rattle.topic_log.specs.Opened.{count_of, HasExtent}
 use Rattle.unit_logs.specs.declared.writing.Logs.{Logs}
 use Rattle.unit_logs.specs.declared.writing.Plan.{Plan}
-use Rattle.unit_logs.specs.Held.{Held, tracked_at}
+use Rattle.core_steps.specs.Held.{Held, tracked_at}
 
 -- how many records a frame of the i-th store's changelog has at most
 abbrev pub batch_at : List StoreSetup → ℕ → ℕ

@@ -14,7 +14,7 @@ use Rattle.topic_log.specs.declared.logs.Log.{Log}
 use Rattle.restore_trim.specs.Standing.{IsOpenAt}
 use Rattle.unit_logs.specs.declared.writing.Logs.{Logs}
 use Rattle.unit_logs.specs.Appending.{AreOpen}
-use Rattle.unit_logs.specs.Held.{Held, tracked_at}
+use Rattle.core_steps.specs.Held.{Held, tracked_at}
 
 -- a setup of one input, for which a checkpoint with its names has a spelling; so it has no more stores and outputs than a checkpoint
 pub record IsSetUp (s : Setup) : Type 0 where

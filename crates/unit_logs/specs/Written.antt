@@ -10,7 +10,7 @@ use Rattle.topic_log.specs.Growth.{LacksRoom}
 use Rattle.topic_log.specs.Opened.{is_broken, size_of}
 use Rattle.topic_log.specs.Planning.{ReachesBy}
 use Rattle.unit_logs.specs.Appending.{AreOpen, AreAppended}
-use Rattle.unit_logs.specs.Held.{Held}
+use Rattle.core_steps.specs.Held.{Held}
 use Rattle.unit_logs.specs.Planned.{PlansCommit}
 use Rattle.unit_logs.specs.Room.{HaveRoom, OneLacksRoom, EachReaches}
 use Rattle.restore_trim.specs.Standing.{IsOpenAt, AllSound}

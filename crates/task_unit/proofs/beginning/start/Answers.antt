@@ -14,7 +14,7 @@ use Rattle.restore_trim.specs.Standing.{IsRestored, AllSound}
 use Rattle.std.proofs.lemmas.List.{length-map}
 use Rattle.kv_store.specs.Tracked.{Tracked}
 use Rattle.task_unit.specs.Acting.{held}
-use Rattle.unit_logs.specs.Held.{contents_of}
+use Rattle.core_steps.specs.Held.{contents_of}
 use Rattle.task_unit.specs.Inputs.{TellsInput, WhyNoInput}
 use Rattle.task_unit.specs.Units.{input_of}
 use Rattle.unit_logs.proofs.Laws.{few_stores, few_outputs}

@@ -5,7 +5,7 @@ use Rattle.std.specs.Vec.Iter.{into_iter_items}
 use Rattle.samza_model.specs.Content.{Content}
 use Rattle.kv_store.specs.Tracked.{Tracked, AreWithinLimits, no_keys}
 use Rattle.task_unit.specs.Held.{AreClean}
-use Rattle.unit_logs.specs.Held.{contents_of}
+use Rattle.core_steps.specs.Held.{contents_of}
 use Rattle.task_unit.proofs.beginning.track_all.Goals as goal
 
 -- a store more

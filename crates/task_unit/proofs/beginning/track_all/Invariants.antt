@@ -2,7 +2,7 @@ use Rattle.std.proofs.Common.{◌≡◌, ◌++◌, All}
 use Rattle.std.specs.Vec.Iter.{into_iter_items}
 use Rattle.kv_store.specs.Tracked.{AreWithinLimits}
 use Rattle.task_unit.specs.Held.{AreClean}
-use Rattle.unit_logs.specs.Held.{contents_of}
+use Rattle.core_steps.specs.Held.{contents_of}
 use Rattle.task_unit.proofs.beginning.track_all.Given as goal
 
 abbrev pub invariant-loop-table : goal.invariant-loop-table

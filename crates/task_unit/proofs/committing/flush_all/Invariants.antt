@@ -1,6 +1,6 @@
 use Rattle.std.proofs.Common.{◌≡◌, ◌<◌, ℕ, length}
 use Rattle.kv_store.specs.Tracked.{no_keys}
-use Rattle.unit_logs.specs.Held.{tracked_at, contents_of}
+use Rattle.core_steps.specs.Held.{tracked_at, contents_of}
 use Rattle.task_unit.proofs.committing.flush_all.Given as goal
 
 abbrev pub invariant-loop-i : goal.invariant-loop-i

@@ -6,7 +6,7 @@ use Rattle.samza_model.specs.Content.{nothing_stored}
 use Rattle.kv_store.specs.Tracked.{Tracked, no_keys}
 use Rattle.log_frame.specs.Frame.{FrameView}
 use Rattle.topic_log.specs.declared.logs.Log.{Log}
-use Rattle.unit_logs.specs.Held.{tracked_at}
+use Rattle.core_steps.specs.Held.{tracked_at}
 use Rattle.samza_model.specs.Restored.{mark_names, setup_names}
 use Rattle.unit_logs.specs.Planned.{PlansStore}
 use Rattle.unit_logs.proofs.PlansSoFar.{each_more}

@@ -5,7 +5,7 @@ use Rattle.samza_model.specs.Runs.{end_at, run_on}
 use Rattle.task_unit.specs.Acting.{held, dirty_at}
 use Rattle.task_unit.specs.Touched.{acts_on, touched}
 use Rattle.task_unit.proofs.Touching.{touches_on, touches_end, touches_over}
-use Rattle.unit_logs.specs.Held.{state_of}
+use Rattle.core_steps.specs.Held.{state_of}
 use Rattle.task_unit.proofs.Turns.{turn_goes_on, turn_ends, turn_is_over}
 use Rattle.task_unit.proofs.acting.Holdings.act_on.Goals as goal
 

@@ -1,7 +1,7 @@
 use Rattle.std.proofs.Common.{◌≡◌, ◌-◌, []}
 use Rattle.samza_model.specs.Runs.{run_on}
 use Rattle.task_unit.specs.Acting.{held, KeepsClean, GoesBack}
-use Rattle.unit_logs.specs.Held.{IsSized, state_of}
+use Rattle.core_steps.specs.Held.{IsSized, state_of}
 use Rattle.task_unit.specs.Touched.{acts_on}
 use Rattle.task_unit.proofs.Touching.{LeadsOn}
 use Rattle.task_unit.proofs.acting.Holdings.act_on.Given as goal

@@ -1,7 +1,7 @@
 use Rattle.std.proofs.Common.{ap, sym, subst, ◌∙◌, inl, inr}
 use Rattle.samza_model.specs.Content.{changed}
 use Rattle.task_unit.specs.Acting.{held}
-use Rattle.unit_logs.specs.Held.{state_of}
+use Rattle.core_steps.specs.Held.{state_of}
 use Rattle.task_unit.proofs.Made.{always, get_unchanged, next_unchanged, IsAside, aside_noted, aside_unchanged}
 use Rattle.task_unit.proofs.Touching.{aside_touches}
 use Rattle.task_unit.proofs.acting.Holdings.make.Goals as goal

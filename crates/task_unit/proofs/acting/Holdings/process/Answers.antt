@@ -1,7 +1,7 @@
 use Rattle.std.proofs.Common.{◌≡◌, ap, sym, subst, refl, List, [], reverse}
 use Rattle.task_unit.specs.declared.acting.Undone.{Undone}
 use Rattle.task_unit.specs.Acting.{held, undos_of, GoesBack}
-use Rattle.unit_logs.specs.Held.{IsSized, Held}
+use Rattle.core_steps.specs.Held.{IsSized, Held}
 use Rattle.task_unit.specs.declared.acting.Holdings.{Holdings}
 use Rattle.task_unit.specs.Held.{LeadsTo}
 use Rattle.task_unit.proofs.Made.{same_clean}

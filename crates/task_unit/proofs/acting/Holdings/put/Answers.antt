@@ -1,6 +1,6 @@
 use Rattle.std.proofs.Common.{◌∙◌, ap, Some, sym, subst}
 use Rattle.task_unit.specs.Acting.{held, dirty_at, KeepsClean}
-use Rattle.unit_logs.specs.Held.{Held, state_of}
+use Rattle.core_steps.specs.Held.{Held, state_of}
 use Rattle.task_unit.proofs.Made.{put, put_noted, stored_clean}
 use Rattle.task_unit.proofs.Touching.{stored_dirty}
 use Rattle.task_unit.proofs.acting.Holdings.put.Goals as goal

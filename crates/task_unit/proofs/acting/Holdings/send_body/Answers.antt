@@ -1,6 +1,6 @@
 use Rattle.std.proofs.Common.{◌∙◌, ap}
 use Rattle.task_unit.specs.Acting.{held}
-use Rattle.unit_logs.specs.Held.{state_of}
+use Rattle.core_steps.specs.Held.{state_of}
 use Rattle.task_unit.proofs.Made.{sent, send_noted}
 use Rattle.task_unit.proofs.acting.Holdings.send_body.Goals as goal
 

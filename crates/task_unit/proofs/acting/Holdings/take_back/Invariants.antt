@@ -1,7 +1,7 @@
 use Rattle.std.proofs.Common.{vec_len, reverse}
 use Rattle.task_unit.specs.Acting.{held, undos_of}
 use Rattle.task_unit.specs.Held.{LeadsTo}
-use Rattle.unit_logs.specs.Held.{Held}
+use Rattle.core_steps.specs.Held.{Held}
 use Rattle.task_unit.proofs.acting.Holdings.take_back.Given as goal
 
 abbrev pub invariant-loop-undone : goal.invariant-loop-undone

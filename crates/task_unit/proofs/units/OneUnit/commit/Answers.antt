@@ -4,7 +4,8 @@ use Rattle.samza_model.specs.Content.{sent_at}
 use Rattle.samza_model.specs.Counters.{Rose}
 use Rattle.unit_logs.specs.declared.faults.CommitFault.TheVariants.{Broken, Busy, Device, Failed, Limit, Windowing}
 use Rattle.task_unit.specs.Acting.{held}
-use Rattle.unit_logs.specs.Held.{IsSized, Held, state_of, unlogged_of}
+use Rattle.core_steps.specs.Held.{IsSized, Held, state_of}
+use Rattle.unit_logs.specs.Unlogged.{unlogged_of}
 use Rattle.unit_logs.specs.Commits.{IsCommitted, LeavesMade}
 use Rattle.restore_trim.specs.Standing.{OthersStay}
 use Rattle.samza_model.specs.declared.checkpoints.Checkpoint.{Checkpoint}

@@ -3,7 +3,8 @@ use Rattle.samza_model.specs.declared.messages.Record.{Record}
 use Rattle.samza_model.specs.Meaning.{Meaning}
 use Rattle.samza_model.specs.Runs.{runs}
 use Rattle.task_unit.specs.Acting.{held, AreTouched}
-use Rattle.unit_logs.specs.Held.{Held, state_of, unlogged_of}
+use Rattle.core_steps.specs.Held.{Held, state_of}
+use Rattle.unit_logs.specs.Unlogged.{unlogged_of}
 use Rattle.task_unit.specs.Touched.{acts_of}
 use Rattle.task_unit.specs.Units.{IsMessage, IsProcessed}
 use Rattle.task_unit.proofs.Touching.{unlogged_behind}
