@@ -1,10 +1,13 @@
 -- What a commit makes of the records of a log, from what it makes of its frames.
-use Rattle.std.proofs.Common.{ℕ, ◌<◌, ◌⊎◌, inl, inr, List, ◌++◌, length, Option, sym, ◌∙◌, ap}
+use Rattle.std.proofs.Common.{ℕ, ◌<◌, ◌⊎◌, inl, inr, List, [], ◌∷◌, ◌++◌, length, Option, Some, sym, ◌∙◌, ap}
 use Rattle.samza_model.specs.declared.messages.Record.{Record}
 use Rattle.samza_model.specs.declared.checkpoints.Checkpoint.{Checkpoint}
 use Rattle.samza_model.specs.declared.setups.Setup.{Setup}
 use Rattle.samza_model.specs.Content.{Content, State, sent_at}
-use Rattle.samza_model.specs.Files.{Image, output_file}
+use Rattle.samza_model.specs.Checkpoint.{StandsFor}
+use Rattle.samza_model.specs.Files.{Image, checkpoint_file, output_file}
+use Rattle.samza_model.specs.Restored.{store_file}
+use Rattle.unit_logs.specs.Unlogged.{unlogged_at}
 use Rattle.samza_model.specs.Logs.{joined, HasLog}
 use Rattle.topic_log.proofs.Laws.{joined-append}
 use Rattle.unit_logs.specs.Commits.{IsFollowed, IsCommitted, IsUncommitted}
@@ -41,3 +44,25 @@ sends_may_follow s before after mark contents unlogged unsent is j had lt log = 
         ∙ sym (joined-append log.frames more.0);
   })
 ]
+
+-- behind each changelog's records stand the changes of its store
+pub changes_follow : (s : Setup) (before after : Image) (mark : Option Checkpoint) (next : ℕ) (state : State) (unlogged : List (List Record)) (made : Checkpoint)
+    → IsCommitted s before after mark next state unlogged made → (i : ℕ) (had : List Record) → i < length s.stores → HasLog (before (store_file (Some made) i)) had
+    → (more : List Record) × HasLog (after (store_file (Some made) i)) (had ++ more)
+changes_follow s before after mark next state unlogged made is i had lt log =
+    (unlogged_at unlogged i, follows_log _ (unlogged_at unlogged i) had (before (store_file (Some made) i)) (after (store_file (Some made) i)) (is.changes i lt) log)
+
+-- behind the checkpoints' records stands the one of the checkpoint that was made
+pub marked_follows : (s : Setup) (before after : Image) (mark : Option Checkpoint) (next : ℕ) (state : State) (unlogged : List (List Record)) (made : Checkpoint)
+    → IsCommitted s before after mark next state unlogged made → (had : List Record) → HasLog (before checkpoint_file) had
+    → (r : Record) × StandsFor r made × HasLog (after checkpoint_file) (had ++ r ∷ [])
+marked_follows s before after mark next state unlogged made is had log =
+    let m = is.marked log.frames log.has in (
+      m.0,
+      m.1,
+      record {
+        frames = log.frames ++ (m.0 ∷ []) ∷ [];
+        has = m.2;
+        records_are = ap (λ (l : List Record). l ++ m.0 ∷ []) log.records_are ∙ sym (joined-append log.frames ((m.0 ∷ []) ∷ []));
+      },
+    )
