@@ -43,6 +43,8 @@ begun_core u v p m core lt may is = subst IsCore (sym is) (deliver_core u p m co
 pub deliver_adds : {T E : Type 0} (r : Result T E) (u v : CoreValue) (p : ℕ) (m : Record) → IsCore u → p < length u.starts → MayBegin u p → OnOk r (v ≡ after_deliver u p m) → OnOk r (Adds (IsBody p (next_at u p) m) u v (deliver_event u p m))
 deliver_adds (Ok x) u v p m core lt may is = subst (λ w. Adds (IsBody p (next_at u p) m) u w (deliver_event u p m)) (sym is) (record {
   same = λ o. refl;
+  times = refl;
+  last = refl;
   journal = refl;
   history = λ o h a body s. deliver_stands u p m core lt may o h a body s;
 })
@@ -107,6 +109,8 @@ act_is u n made a act callbacks held journal asked f flies count answer answered
 pub act_adds : (u v : CoreValue) (n : ℕ) (f : Flight) (act : Act) → IsCore u → flight_of n u.callbacks.flights ≡ Some f → course u.setup (length f.answers) act ≡ None → v ≡ after_act u f act → Adds (IsCallAct f act) u v (act_event u f act)
 act_adds u v n f act core flies goes is = subst (λ w. Adds (IsCallAct f act) u w (act_event u f act)) (sym is) (record {
   same = λ o. refl;
+  times = refl;
+  last = refl;
   journal = refl;
   history = λ o h a of_job s. act_stands u n f act core flies goes o h a of_job s;
 })
@@ -186,6 +190,8 @@ completed_core u v n f core flies is =
 pub complete_adds : (u v : CoreValue) (n : ℕ) (f : Flight) → IsCore u → flight_of n u.callbacks.flights ≡ Some f → v ≡ after_complete u f → Adds (IsCallAct f Done) u v (Complete f.number)
 complete_adds u v n f core flies is = subst (λ w. Adds (IsCallAct f Done) u w (Complete f.number)) (sym is) (record {
   same = λ o. refl;
+  times = refl;
+  last = refl;
   journal = refl;
   history = λ o h a of_job s. complete_stands u n f Done core flies refl o h a of_job s;
 })
@@ -224,6 +230,8 @@ failed_core u v n f why core flies is =
 pub failure_adds : (u v : CoreValue) (n : ℕ) (f : Flight) (act : Act) (why : Why) → IsCore u → flight_of n u.callbacks.flights ≡ Some f → course u.setup (length f.answers) act ≡ Some (Some why) → v ≡ after_failure u f why → Adds (IsCallAct f act) u v (Failed (failure_of f why))
 failure_adds u v n f act why core flies ends is = subst (λ w. Adds (IsCallAct f act) u w (Failed (failure_of f why))) (sym is) (record {
   same = λ o. refl;
+  times = refl;
+  last = refl;
   journal = refl;
   history = λ o h a of_job s. failure_stands u n f act why core flies ends o h a of_job s;
 })
@@ -279,6 +287,8 @@ committed_core u v held core cleared is = subst IsCore (sym is) (commit_core u h
 pub commits : (u v : CoreValue) (held : Held) → IsCore u → IsCleared u.held held → v ≡ after_commit u held → Commits u v
 commits u v held core cleared is = subst (Commits u) (sym is) (record {
   same = λ o. refl;
+  times = refl;
+  last = refl;
   journal = refl;
   history = λ o h a s. commit_stands u held core cleared o h a s;
 })

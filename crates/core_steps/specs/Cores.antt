@@ -119,12 +119,15 @@ pub record Stands (o : Outside) (u : CoreValue) (h : List Event) (a : ℕ) : Typ
 -- by whatever events the core stood before, it stands by them and this one
 pub record Adds (may : Outside → CoreValue → Type 0) (old new : CoreValue) (e : Event) : Type 0 where
   pub same : (o : Outside) → given o new ≡ given o old
+  pub times : new.times ≡ old.times
+  pub last : new.last ≡ old.last
   pub journal : new.since ≡ e ∷ old.since
   pub history : (o : Outside) (h : List Event) (a : ℕ) → may o old → Stands o old h a → Stands o new (e ∷ h) a
 
 -- nothing but what no event says has changed
 pub record Keeps (old new : CoreValue) : Type 0 where
   pub same : (o : Outside) → given o new ≡ given o old
+  pub last : new.last ≡ old.last
   pub journal : new.since ≡ old.since
   pub history : (o : Outside) (h : List Event) (a : ℕ) → Stands o old h a → Stands o new h a
 
@@ -349,5 +352,7 @@ after_commit u held =
 -- by whatever events the core stood before, it stands by the same, and all of them are behind a mark
 pub record Commits (old new : CoreValue) : Type 0 where
   pub same : (o : Outside) → given o new ≡ given o old
+  pub times : new.times ≡ commit_made old.times
+  pub last : new.last ≡ old.last + 1
   pub journal : new.since ≡ []
   pub history : (o : Outside) (h : List Event) (a : ℕ) → Stands o old h a → Stands o new h (length h)

@@ -71,6 +71,8 @@ module _ {P D S : Type 0} (meaning : P → Meaning) (tells : Type 0) (reads : D 
       → Adds meaning tells reads number images since old (with_core old core) e
   adds old core e may a holds follows = record {
     same = record { job = refl; shelf = refl; messages = refl; core = a.same };
+    times = a.times;
+    last = a.last;
     disk = refl;
     marks = (refl, refl, refl);
     history = λ o t s.

@@ -28,9 +28,9 @@ pub one_start : (u : CoreValue) → IsCore u → IsSetUp u.setup → length u.st
 one_start u core set_up = sym core.inputs ∙ set_up.one_input
 
 module _ {P D S : Type 0} (meaning : P → Meaning) (tells : Type 0) (reads : D → Image) (number : D → ℕ) (images : D → Image → Type 0) (since : D → ℕ → Image → Type 0) where
-  pub keeps_unit : (logs : Logs) (old : UnitValue P D S) (core : CoreValue) (e : Event) → core.last ≡ old.core.last → IsUnit meaning tells reads number images since logs old
+  pub keeps_unit : (logs : Logs) (old : UnitValue P D S) (core : CoreValue) (e : Event) → IsUnit meaning tells reads number images since logs old
       → Adds meaning tells reads number images since old (with_core old core) e → IsUnit meaning tells reads number images since logs (with_core old core)
-  keeps_unit logs old core e last inv a =
+  keeps_unit logs old core e inv a =
       let same : old.core.setup ≡ core.setup = sym (ap (λ k. k.setup) (a.same.core inv.outside)) in
       record {
         set_up = subst (λ (s : Setup). IsSetUp s) same inv.set_up;
@@ -39,7 +39,7 @@ module _ {P D S : Type 0} (meaning : P → Meaning) (tells : Type 0) (reads : D 
         ends = sym (ap (λ k. k.ends) (sym (a.same.core inv.outside))) ∙ inv.ends;
         sound = inv.sound;
         counted = inv.counted;
-        last = last ∙ inv.last;
+        last = a.last ∙ inv.last;
         on_disk = λ b told. subst (λ (s : Setup). OpenOnDisk (reads old.disk) (images old.disk) s logs (last_mark old.marks)) same (inv.on_disk b told);
         outside = inv.outside;
         history = with_event e inv.history;

@@ -91,7 +91,7 @@ module _ {P D S : Type 0} (meaning : P → Meaning) (tells : Type 0) (reads : D 
         }
 
       -- a write that was made
-      module _ (after : CoreValue) (commits_core : Commits old.core after) (next_last : after.last ≡ old.core.last + 1) (rest : AtRest old.core) (only : tells → (c : Image) → since disk (number disk) c → images disk c) (now : tells → images disk (reads disk))
+      module _ (after : CoreValue) (commits_core : Commits old.core after) (rest : AtRest old.core) (only : tells → (c : Image) → since disk (number disk) c → images disk c) (now : tells → images disk (reads disk))
           (follows : tells → AreWritten (reads old.disk) (images old.disk) (reads disk) (images disk) logs logs' plan) (sound' : AreSound logs') (one_more : count_of logs'.marks ≡ count_of logs.marks + 1) where
         done : tells → (c : Image) → images disk c → IsCommitted old.core.setup (reads old.disk) c (last_mark old.marks) (lane_at old.core.lanes 0).low (state_of old.core.held) (unlogged_of old.core.held.stores) made
         done told c is =
@@ -101,6 +101,7 @@ module _ {P D S : Type 0} (meaning : P → Meaning) (tells : Type 0) (reads : D 
         pub finished : Marks meaning tells reads number images since old (with_commit old disk after (record { checkpoint = Some made; at = number disk })) made
         finished = record {
           same = record { job = refl; shelf = refl; messages = refl; core = commits_core.same };
+          times = commits_core.times;
           id = id_is;
           marks = refl;
           sound = (sound, refl, refl);
@@ -117,7 +118,7 @@ module _ {P D S : Type 0} (meaning : P → Meaning) (tells : Type 0) (reads : D 
               ends = ap (λ k. k.ends) (commits_core.same inv.outside) ∙ inv.ends;
               sound = λ _. sound';
               counted = λ _. one_more ∙ sym p.id_is;
-              last = next_last ∙ ap (λ n. n + 1) inv.last ∙ sym id_is;
+              last = commits_core.last ∙ ap (λ n. n + 1) inv.last ∙ sym id_is;
               on_disk = λ _ told. subst (λ (s : Setup). OpenOnDisk (reads disk) (images disk) s logs' (Some made)) same
                   (opened (reads disk) (images disk) old.core.setup logs' (Some made) old.core.held
                   (stands_made old.core.setup (reads old.disk) (reads disk) (images old.disk) (images disk) logs logs' plan (last_mark old.marks) (lane_at old.core.lanes 0).low made old.core.held (on_disk_now told) (follows told) p

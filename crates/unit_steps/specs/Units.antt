@@ -13,6 +13,7 @@ use Rattle.samza_model.specs.Meaning.{Meaning}
 use Rattle.samza_model.specs.Partition.{partition_of}
 use Rattle.samza_model.specs.Requests.{IsPrompt}
 use Rattle.samza_model.specs.Restored.{count_at, id_of, store_file, Restores}
+use Rattle.window_timer.specs.Times.{commit_made}
 use Rattle.topic_log.specs.declared.logs.Log.{Log}
 use Rattle.topic_log.specs.Opened.{count_of}
 use Rattle.restore_trim.specs.Standing.{IsOpenAt}
@@ -62,6 +63,8 @@ pub record SameGiven {P D S : Type 0} (old new : UnitValue P D S) : Type 0 where
 -- by whatever events the unit stood before, it stands by them and this one
 pub record Adds {P D S : Type 0} (meaning : P → Meaning) (tells : Type 0) (reads : D → Image) (number : D → ℕ) (images : D → Image → Type 0) (since : D → ℕ → Image → Type 0) (old new : UnitValue P D S) (e : Event) : Type 0 where
   pub same : SameGiven old new
+  pub times : new.core.times ≡ old.core.times
+  pub last : new.core.last ≡ old.core.last
   pub disk : new.disk ≡ old.disk
   pub marks : (new.marks ≡ old.marks) × (new.begun ≡ old.begun) × (new.broken ≡ old.broken)
   pub history : (o : Outside) (t : History) → Stands meaning tells reads number images since o old t
@@ -70,6 +73,7 @@ pub record Adds {P D S : Type 0} (meaning : P → Meaning) (tells : Type 0) (rea
 -- by whatever events it stood before, it stands by the same, and all of them are behind a new mark
 pub record Marks {P D S : Type 0} (meaning : P → Meaning) (tells : Type 0) (reads : D → Image) (number : D → ℕ) (images : D → Image → Type 0) (since : D → ℕ → Image → Type 0) (old new : UnitValue P D S) (made : Checkpoint) : Type 0 where
   pub same : SameGiven old new
+  pub times : new.core.times ≡ commit_made old.core.times
   pub id : made.id ≡ id_of (last_mark old.marks) + 1
   pub marks : new.marks ≡ record { checkpoint = Some made; at = number new.disk } ∷ old.marks
   pub sound : (old.broken ≡ false) × (new.broken ≡ false) × (new.begun ≡ None)
