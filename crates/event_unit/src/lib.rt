@@ -1,0 +1,11 @@
+//! One task's unit: the job's acts on the messages of its input, and commits, over a disk.
+#![tactic(auto)]
+
+mod acting;
+mod committing;
+mod units;
+
+pub use committing::Mark;
+pub use task_core::{ActFault, Applied, Ask, Question, QuestionFault};
+pub use units::TaskUnit;
+pub use unit_logs::CommitFault;
