@@ -33,8 +33,8 @@ use Rattle.core_steps.specs.Held.{Held, state_of, held_after}
 use Rattle.samza_model.specs.declared.acts.Scope.{Scope}
 use Rattle.window_timer.specs.declared.times.Times.{Times}
 use Rattle.window_timer.specs.Times.{commit_made}
-use Rattle.core_steps.specs.Cores.{CoreValue, asked_behind, IsCore, MayBegin, next_at, Adds, Keeps, with_times, IsBody, IsCallAct, deliver_event, act_event, after_deliver, after_act, after_complete, after_failure, after_commit, uncovered_now, IsCleared, Commits}
-use Rattle.core_steps.proofs.Steps.{deliver_stands, act_stands, complete_stands, times_stand, commit_stands, number_is, failure_stands}
+use Rattle.core_steps.specs.Cores.{CoreValue, asked_behind, IsCore, MayBegin, next_at, Adds, IsBody, IsCallAct, deliver_event, act_event, after_deliver, after_act, after_complete, after_failure, after_commit, uncovered_now, IsCleared, Commits}
+use Rattle.core_steps.proofs.Steps.{deliver_stands, act_stands, complete_stands, commit_stands, number_is, failure_stands}
 use Rattle.core_steps.proofs.CoreKept.{deliver_core, acted_core, complete_core, commit_core, the_found, failure_core}
 
 pub begun_core : (u v : CoreValue) (p : ℕ) (m : Record) → IsCore u → p < length u.starts → MayBegin u p → v ≡ after_deliver u p m → IsCore v
@@ -226,15 +226,6 @@ failure_adds u v n f act why core flies ends is = subst (λ w. Adds (IsCallAct f
   same = λ o. refl;
   journal = refl;
   history = λ o h a of_job s. failure_stands u n f act why core flies ends o h a of_job s;
-})
-
--- other times
-
-pub timed_keeps : (u v : CoreValue) (t : Times) → v ≡ with_times u t → Keeps u v
-timed_keeps u v t is = subst (Keeps u) (sym is) (record {
-  same = λ o. refl;
-  journal = refl;
-  history = λ o h a s. times_stand u t o h a s;
 })
 
 -- a mark is made

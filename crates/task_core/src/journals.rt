@@ -1,7 +1,7 @@
 // The events since the last mark, and those kept from before.
 ghost use Rattle.std.specs.Prelude.{◌≡◌, ◌∷◌, ◌++◌, [], drop, filter, OnOk, OnErr, IfOk, List, reverse, length, true, ◌||◌, nat_le, Some, None, if◌then◌else◌};
 ghost use Rattle.samza_model.specs.Journals.{belongs, uncovered_by};
-ghost use Rattle.samza_model.specs.Requests.{is_asked, asks_commit, asks_here, size_of};
+ghost use Rattle.samza_model.specs.Requests.{is_asked, asks_commit, asks_here, size_of, due_by};
 ghost use Rattle.core_steps.specs.Lanes.{lane_at};
 ghost use Rattle.task_core.specs.Noting.{listed, noted_in};
 ghost use Rattle.samza_model.specs.declared.events.Event.{Event as EventValue};
@@ -12,6 +12,12 @@ use packed_events::Packed;
 use samza_model::{Act, Answer, Event, NoMemory, Record};
 use std::alloc::Global;
 use std::marker::Model;
+
+/// So many events since the last mark ask for the next one.
+const EVENT_BOUND: usize = 131_072;
+
+/// So many bytes of keys and values in the events since the last mark ask for the next one.
+const BYTE_BOUND: usize = 8_388_608;
 
 /// A journal. Contracts see both parts with the newest first.
 #[derive(Drop)]
@@ -159,6 +165,13 @@ impl Journal {
         ensures { result ≡ is_asked self.now.since }
     {
         self.asked
+    }
+
+    /// Whether the events since the last mark ask for the next one: by an act, or as too many or too large.
+    pub(crate) fn is_due(&self) -> bool
+        ensures { result ≡ due_by self.now.since }
+    {
+        self.asked || EVENT_BOUND <= self.count() || BYTE_BOUND <= self.bytes()
     }
 
     /// The callbacks that a mark now doesn't cover.

@@ -1,4 +1,4 @@
-use Rattle.std.proofs.Common.{◌∙◌, ◌≡◌, ◌-◌, ap, arith}
+use Rattle.std.proofs.Common.{◌∙◌, ◌-◌, ap, arith}
 use Rattle.samza_model.specs.Journals.{Trimmed}
 use Rattle.samza_model.specs.Requests.{size_of}
 use Rattle.packed_events.proofs.Sizes.{fewer_bytes, bytes_behind}

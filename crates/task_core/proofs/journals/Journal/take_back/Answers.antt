@@ -1,4 +1,4 @@
-use Rattle.std.proofs.Common.{◌≡◌, ◌∙◌, ◌<◌, length, sym, ap, arith}
+use Rattle.std.proofs.Common.{◌∙◌, length, sym, ap, arith}
 use Rattle.samza_model.specs.Requests.{is_asked}
 use Rattle.packed_events.specs.Packed.{bytes_of}
 use Rattle.task_core.proofs.Trimming.{taken_back}
