@@ -211,7 +211,7 @@ impl Core {
         self.last += 1;
     }
 
-    /// Delivers the next message of an input, and tells the callback's number. An error leaves all as it was, and want of
+    /// Delivers the next message of an input, and tells the callback's number. An error leaves all as it was; want of
     /// memory comes only where nothing else stands against the message.
     pub fn deliver(&mut self, input: u32, body: Record) -> Result<u64, DeliverFault>
         requires input { input < length self.old.starts }
