@@ -20,7 +20,9 @@ use Rattle.kv_store.specs.Tracked.{with_change}
 use Rattle.offset_window.specs.Windows.{Window, next_of, is_inside, is_done, delivered, completed}
 use Rattle.core_steps.specs.Held.{contents_of, Held, IsSized, tracked_at, state_of, held_after}
 use Rattle.core_steps.specs.Lanes.{lane_at, left, IsOpenAt, is_same_place, AreApart}
-use Rattle.core_steps.specs.Cores.{CoreValue, IsIdle, IsCore, MayBegin, next_at, after_deliver, after_act, after_complete, after_failure, after_window_act, after_window_end, after_window_failure, after_open_window, after_commit, IsCleared}
+use Rattle.core_steps.specs.Times.{IsTimed}
+use Rattle.window_timer.specs.declared.times.Times.{Times}
+use Rattle.core_steps.specs.Cores.{CoreValue, IsIdle, IsCore, MayBegin, next_at, after_deliver, after_act, after_complete, after_failure, after_window_act, after_window_end, after_window_failure, after_open_window, with_times, after_commit, IsCleared}
 use Rattle.core_steps.proofs.Lanes.{get_more, front, behind, leading_short}
 use Rattle.std.specs.List.{prefix_len}
 use Rattle.std.proofs.lemmas.List.{length-map}
@@ -469,6 +471,23 @@ open_window_core u core none sound = record {
   apart = core.apart;
   idle = (none, sound);
   timed = record { commit = core.timed.commit; window = core.timed.window };
+  runnable = core.runnable;
+  few = core.few;
+}
+
+pub times_core : (u : CoreValue) (t : Times) → IsCore u → IsTimed u.setup t → IsCore (with_times u t)
+times_core u t core timed = record {
+  inputs = core.inputs;
+  lanes = core.lanes;
+  ends = core.ends;
+  within = core.within;
+  spans = core.spans;
+  limit = core.limit;
+  sized = core.sized;
+  undone = core.undone;
+  apart = core.apart;
+  idle = core.idle;
+  timed = timed;
   runnable = core.runnable;
   few = core.few;
 }

@@ -31,7 +31,7 @@ use Rattle.offset_window.specs.Windows.{Window, next_of, is_inside, is_done, del
 use Rattle.core_steps.specs.Held.{Held, IsSized, tracked_at, contents_of, state_of, held_after}
 use Rattle.core_steps.specs.Lanes.{lane_at, IsLane, IsOpenAt, AreApart}
 use Rattle.core_steps.specs.Cores.{CoreValue, Outside, given, IsIdle, IsCore, IsHeld, IsWindow, Stands, MayBegin, next_at, IsBody, IsCallAct, IsWinAct, deliver_event, act_event, window_act_event, after_deliver, after_act, after_complete, after_failure, after_window_act, after_window_end, after_window_failure, after_open_window, after_commit, uncovered_now, IsCleared}
-use Rattle.core_steps.specs.Laws.{IsFresh, FreshStands, CommitStands, DeliverStands, ActStands, CompleteStands, FailureStands, WindowActStands, WindowEndStands, WindowFailureStands, OpenWindowStands}
+use Rattle.core_steps.specs.Laws.{IsFresh, FreshStands, CommitStands, DeliverStands, ActStands, CompleteStands, FailureStands, WindowActStands, WindowEndStands, WindowFailureStands, OpenWindowStands, TimesStand}
 use Rattle.samza_model.specs.Journals.{lows_of}
 use Rattle.core_steps.proofs.Trimmed.{trims}
 use Rattle.std.proofs.Common.{length-append, append-nil}
@@ -528,6 +528,21 @@ open_window_stands u closed sound o h a s = record {
   held = s.held;
   failed = s.failed;
   window = sym ((subst (IsWindow h) closed s.window).1 (sym s.failed ∙ sound));
+  asked = s.asked;
+  within = s.within;
+  since = s.since;
+  kept = s.kept;
+}
+
+pub times_stand : TimesStand
+times_stand u t o h a s = record {
+  lawful = s.lawful;
+  number = s.number;
+  flies = s.flies;
+  lanes = s.lanes;
+  held = s.held;
+  failed = s.failed;
+  window = s.window;
   asked = s.asked;
   within = s.within;
   since = s.since;

@@ -11,7 +11,9 @@ use Rattle.samza_model.specs.Events.{flight_of}
 use Rattle.samza_model.specs.Lawful.{start_at, course, failure_of, window_failure}
 use Rattle.core_steps.specs.Held.{Held}
 use Rattle.core_steps.specs.Lanes.{lane_at}
-use Rattle.core_steps.specs.Cores.{IsHeld, given, CoreValue, Outside, IsCore, Stands, MayBegin, next_at, IsBody, IsCallAct, IsWinAct, deliver_event, act_event, window_act_event, after_deliver, after_act, after_complete, after_failure, after_window_act, after_window_end, after_window_failure, after_open_window, after_commit, IsCleared}
+use Rattle.core_steps.specs.Times.{IsTimed}
+use Rattle.window_timer.specs.declared.times.Times.{Times}
+use Rattle.core_steps.specs.Cores.{IsHeld, given, CoreValue, Outside, IsCore, Stands, MayBegin, next_at, IsBody, IsCallAct, IsWinAct, deliver_event, act_event, window_act_event, after_deliver, after_act, after_complete, after_failure, after_window_act, after_window_end, after_window_failure, after_open_window, with_times, after_commit, IsCleared}
 
 abbrev pub DeliverStands : Type 0
 DeliverStands = (u : CoreValue) (p : ℕ) (m : Record) → IsCore u → p < length u.starts → MayBegin u p
@@ -45,6 +47,9 @@ abbrev pub OpenWindowStands : Type 0
 OpenWindowStands = (u : CoreValue) → u.window ≡ None → u.failed ≡ None
     → (o : Outside) (h : List Event) (a : ℕ) → Stands o u h a → Stands o (after_open_window u) h a
 
+abbrev pub TimesStand : Type 0
+TimesStand = (u : CoreValue) (t : Times) → (o : Outside) (h : List Event) (a : ℕ) → Stands o u h a → Stands o (with_times u t) h a
+
 abbrev pub CommitStands : Type 0
 CommitStands = (u : CoreValue) (held : Held) → IsCore u → IsCleared u.held held
     → (o : Outside) (h : List Event) (a : ℕ) → Stands o u h a → Stands o (after_commit u held) h (length h)
@@ -72,6 +77,9 @@ WindowFailureKeeps = (u : CoreValue) (why : Why) → IsCore u → IsCore (after_
 
 abbrev pub OpenWindowKeeps : Type 0
 OpenWindowKeeps = (u : CoreValue) → IsCore u → u.callbacks.flights ≡ [] → u.failed ≡ None → IsCore (after_open_window u)
+
+abbrev pub TimesKeep : Type 0
+TimesKeep = (u : CoreValue) (t : Times) → IsCore u → IsTimed u.setup t → IsCore (with_times u t)
 
 -- of a core just made
 pub record IsFresh (u : CoreValue) : Type 0 where

@@ -1,7 +1,7 @@
 //! What a task's calls do to its value, and that it goes on standing by the events.
 #![tactic(auto)]
 
-ghost use Rattle.core_steps.specs.Laws.{DeliverStands, ActStands, CompleteStands, FailureStands, WindowActStands, WindowEndStands, WindowFailureStands, OpenWindowStands, CommitStands, DeliverKeeps, ActKeeps, CompleteKeeps, FailureKeeps, WindowActKeeps, WindowEndKeeps, WindowFailureKeeps, OpenWindowKeeps, CommitKeeps, FreshStands};
+ghost use Rattle.core_steps.specs.Laws.{DeliverStands, ActStands, CompleteStands, FailureStands, WindowActStands, WindowEndStands, WindowFailureStands, OpenWindowStands, TimesStand, CommitStands, DeliverKeeps, ActKeeps, CompleteKeeps, FailureKeeps, WindowActKeeps, WindowEndKeeps, WindowFailureKeeps, OpenWindowKeeps, TimesKeep, CommitKeeps, FreshStands};
 
 /// Each call's step leaves the core standing by the events before and its own.
 pub fn calls_stand()
@@ -13,6 +13,7 @@ pub fn calls_stand()
     ensures window_end { WindowEndStands }
     ensures window_failure { WindowFailureStands }
     ensures open_window { OpenWindowStands }
+    ensures times { TimesStand }
     ensures commit { CommitStands }
     ensures fresh { FreshStands }
 {}
@@ -27,5 +28,6 @@ pub fn calls_keep()
     ensures window_end { WindowEndKeeps }
     ensures window_failure { WindowFailureKeeps }
     ensures open_window { OpenWindowKeeps }
+    ensures times { TimesKeep }
     ensures commit { CommitKeeps }
 {}

@@ -1,5 +1,5 @@
 -- A journal trimmed in place.
-use Rattle.std.proofs.Common.{ℕ, zero, suc, ◌+◌, ◌-◌, ◌<◌, ◌≡◌, ◌≤◌, ◌⊎◌, inl, inr, Bool, true, false, if◌then◌else◌, List, [], ◌∷◌, ◌++◌, length, take, drop, reverse, refl, sym, ◌∙◌, ap, arith, append-nil}
+use Rattle.std.proofs.Common.{ℕ, zero, suc, ◌+◌, ◌-◌, ◌<◌, ◌≡◌, ◌≤◌, ◌⊎◌, inl, inr, Bool, true, false, List, [], ◌∷◌, ◌++◌, length, take, drop, reverse, refl, sym, ◌∙◌, ap, arith, append-nil}
 use Rattle.std.specs.Prelude.{filter}
 use Rattle.std.proofs.lemmas.List.{reverse-append, take_all, drop_all}
 use Rattle.std.proofs.lemmas.List.Elements.{filter-append}
@@ -68,21 +68,23 @@ drop_front [] ys (suc n) le = absurd (omega (arith, le))
 drop_front (x ∷ xs) ys (suc n) le = drop_front xs ys n (omega (arith, le))
 
 -- the newest event since the mark taken back
-pub record TakenBack (fs : List Event) (cut : ℕ) (v : Trimmed) : Type 0 where
+pub record TakenBack (es fs : List Event) (cut : ℕ) (v : Trimmed) : Type 0 where
   pub within : cut ≤ length fs
   pub since : reverse (drop cut fs) ≡ drop 1 v.since
   pub kept : reverse (take cut fs) ≡ v.kept
+  pub ahead : take cut fs ≡ take cut es
 
-pub taken_back : (es fs : List Event) (cut : ℕ) (v : Trimmed) → parts (reverse (drop cut es)) (reverse (take cut es)) ≡ v → cut < length es → fs ≡ take (length es - 1) es → TakenBack fs cut v
+pub taken_back : (es fs : List Event) (cut : ℕ) (v : Trimmed) → parts (reverse (drop cut es)) (reverse (take cut es)) ≡ v → cut < length es → fs ≡ take (length es - 1) es → TakenBack es fs cut v
 taken_back es fs cut v view lt is =
     let s = snoc es (omega (arith, lt)) in
     let le : cut ≤ length s.front = omega (arith, lt, s.count) in
     let n : length es - 1 ≡ length s.front = omega (arith, s.count) in
     let fs_is : fs ≡ s.front = is ∙ (λ i. take (n i) (s.is i)) ∙ take_front s.front (s.last ∷ []) (length s.front) (omega arith) ∙ take_all (length s.front) s.front (omega arith) in
     let behind : reverse (drop cut es) ≡ s.last ∷ reverse (drop cut s.front) = ap (λ l. reverse (drop cut l)) s.is ∙ ap reverse (drop_front s.front (s.last ∷ []) cut le) ∙ reverse-append (drop cut s.front) (s.last ∷ []) in
-    let ahead : reverse (take cut es) ≡ reverse (take cut s.front) = ap (λ l. reverse (take cut l)) s.is ∙ ap reverse (take_front s.front (s.last ∷ []) cut le) in
+    let ahead : take cut es ≡ take cut s.front = ap (take cut) s.is ∙ take_front s.front (s.last ∷ []) cut le in
     record {
       within = omega (arith, le, ap length fs_is);
       since = ap (λ l. reverse (drop cut l)) fs_is ∙ ap (drop 1) (sym behind) ∙ ap (λ (t : Trimmed). drop 1 t.since) view;
-      kept = ap (λ l. reverse (take cut l)) fs_is ∙ sym ahead ∙ ap (λ (t : Trimmed). t.kept) view;
+      kept = ap (λ l. reverse (take cut l)) fs_is ∙ ap reverse (sym ahead) ∙ ap (λ (t : Trimmed). t.kept) view;
+      ahead = ap (take cut) fs_is ∙ sym ahead;
     }

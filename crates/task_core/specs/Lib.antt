@@ -1,4 +1,6 @@
 pub mod Acting
+pub mod Delivering
 pub mod Holding
 pub mod Noting
 pub mod Questions
+pub mod Telling

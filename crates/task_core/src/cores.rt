@@ -1,5 +1,5 @@
 // The machine of a task's events.
-ghost use Rattle.std.specs.Prelude.{◌≡◌, ◌≢◌, ℕ, ◌+◌, ◌-◌, ◌^◌, ◌<◌, ◌≤◌, ◌∷◌, ◌++◌, [], length, true, false, is_some, Some, None, Err, OnOk, OnErr, IfOk, IfErr, IfSome, slice_set, List, reverse, filter};
+ghost use Rattle.std.specs.Prelude.{◌≡◌, ◌≢◌, ◌↔◌, ℕ, ◌+◌, ◌-◌, ◌^◌, ◌<◌, ◌≤◌, ◌∷◌, ◌++◌, [], length, true, false, is_some, Some, None, Err, OnOk, OnErr, IfOk, IfErr, IfSome, slice_set, List, reverse, filter};
 ghost use Rattle.samza_model.specs.declared.turns.Why.{Why as WhyValue};
 ghost use Rattle.samza_model.specs.declared.acts.Answer.{Answer as AnswerValue};
 ghost use Rattle.samza_model.specs.declared.flights.Flight.{Flight};
@@ -13,7 +13,9 @@ ghost use Rattle.core_steps.specs.Held.{state_of, IsSized};
 ghost use Rattle.std.specs.Option.{option_copied, option_map};
 ghost use Rattle.callback_manager.specs.Callbacks.{entry_of};
 ghost use Rattle.samza_model.specs.Journals.{belongs};
-ghost use Rattle.samza_model.specs.Requests.{is_asked};
+ghost use Rattle.samza_model.specs.Requests.{is_asked, due_by};
+ghost use Rattle.task_core.specs.Delivering.{refusal};
+ghost use Rattle.task_core.specs.declared.faults.DeliverFault.{DeliverFault as DeliverFaultValue};
 ghost use Rattle.task_core.specs.Holding.{course_seen};
 ghost use Rattle.task_core.specs.declared.holdings.Course.{Course as CourseValue};
 ghost use Rattle.core_steps.specs.Lanes.{lane_at};
@@ -78,30 +80,30 @@ impl Model for Core {
 }
 
 impl Core {
-    /// Whether a message of this input may be delivered.
-    fn may_deliver(&self, input: u32) -> Result<(), DeliverFault>
+    /// Why no message of this input may be delivered; none where one may.
+    fn refusal(&self, input: u32) -> Option<DeliverFault>
         requires input { input < length self.now.starts }
-        ensures ok { OnOk result (MayBegin self.now input) }
+        ensures refusal { result ≡ refusal self.now input }
+        ensures may { result ≡ None → MayBegin self.now input }
         ensures core { IsCore self.now }
     {
         let place = input as usize;
+        let in_flight = self.callbacks.count();
         if self.failed.is_some() {
-            return Err(DeliverFault::Failed);
+            Some(DeliverFault::Failed)
+        } else if self.window.is_some() {
+            Some(DeliverFault::Windowing)
+        } else if self.ends[place] <= self.lanes[place].next() {
+            Some(DeliverFault::Ended)
+        } else if self.setup.concurrency <= in_flight {
+            Some(DeliverFault::Full { in_flight })
+        } else if self.lanes[place].is_spanned() {
+            Some(DeliverFault::Spanned)
+        } else if !self.setup.async_commit && self.is_due() {
+            Some(DeliverFault::Draining)
+        } else {
+            None
         }
-        if self.window.is_some() {
-            return Err(DeliverFault::Windowing);
-        }
-        let end = self.ends[place];
-        if end <= self.lanes[place].next() {
-            return Err(DeliverFault::Ended);
-        }
-        if self.setup.concurrency <= self.callbacks.count() {
-            return Err(DeliverFault::Full);
-        }
-        if self.lanes[place].is_spanned() {
-            return Err(DeliverFault::Spanned);
-        }
-        Ok(())
     }
 
     /// Begins a callback on the next message of an input.
@@ -209,16 +211,24 @@ impl Core {
         self.last += 1;
     }
 
-    /// Delivers the next message of an input.
+    /// Delivers the next message of an input, and tells the callback's number. An error leaves all as it was; want of
+    /// memory comes only where nothing else stands against the message.
     pub fn deliver(&mut self, input: u32, body: Record) -> Result<u64, DeliverFault>
         requires input { input < length self.old.starts }
         requires count { self.old.callbacks.next < 2 ^ 64 - 1 }
         ensures added { OnOk result (Adds (IsBody input
             (next_at self.old input) body) self.old self.new (deliver_event self.old input body)) }
         ensures number { IfOk result (λ n. n ≡ self.old.callbacks.next) }
+        ensures ok { OnOk result (refusal self.old input ≡ None) }
+        ensures refused { (e : DeliverFaultValue) → e ≢ DeliverFaultValue.NoMemory
+            → ((result ≡ Err e) ↔ (refusal self.old input ≡ Some e)) }
+        ensures prompt { OnOk result (self.old.setup.async_commit ≡ false
+            → due_by self.old.since ≡ false) }
         ensures kept { OnErr result (self.new ≡ self.old) }
     {
-        self.may_deliver(input)?;
+        if let Some(fault) = self.refusal(input) {
+            return Err(fault);
+        }
         let number = self.begin(input, body)?;
         Ok(number)
     }

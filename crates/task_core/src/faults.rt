@@ -2,14 +2,21 @@
 
 use samza_model::{Answer, Items, NoMemory};
 
-/// Why no message was delivered.
+/// Why no message was delivered. Of those that hold the first one is told.
 #[derive(Clone, Copy, Debug, PartialEq, Eq)]
 pub enum DeliverFault {
+    /// A callback or a window failed.
     Failed,
+    /// A window is open.
     Windowing,
+    /// The input's next offset is its end.
     Ended,
-    Full,
+    /// So many callbacks are in flight, as many as the setup allows.
+    Full { in_flight: u32 },
+    /// The input's next offset is as far from the first one that isn't complete as the setup allows.
     Spanned,
+    /// A commit is due, and the setup has it await all callbacks in flight.
+    Draining,
     NoMemory,
 }
 

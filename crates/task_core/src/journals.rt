@@ -1,7 +1,7 @@
 // The events since the last mark, and those kept from before.
 ghost use Rattle.std.specs.Prelude.{◌≡◌, ◌∷◌, ◌++◌, [], drop, filter, OnOk, OnErr, IfOk, List, reverse, length, true, ◌||◌, nat_le, Some, None, if◌then◌else◌};
 ghost use Rattle.samza_model.specs.Journals.{belongs, uncovered_by};
-ghost use Rattle.samza_model.specs.Requests.{is_asked, asks_commit, asks_here};
+ghost use Rattle.samza_model.specs.Requests.{is_asked, asks_commit, asks_here, size_of, due_by};
 ghost use Rattle.core_steps.specs.Lanes.{lane_at};
 ghost use Rattle.task_core.specs.Noting.{listed, noted_in};
 ghost use Rattle.samza_model.specs.declared.events.Event.{Event as EventValue};
@@ -13,11 +13,19 @@ use samza_model::{Act, Answer, Event, NoMemory, Record};
 use std::alloc::Global;
 use std::marker::Model;
 
+/// So many events since the last mark ask for the next one.
+const EVENT_BOUND: usize = 131_072;
+
+/// So many bytes of keys and values in the events since the last mark ask for the next one.
+const BYTE_BOUND: usize = 8_388_608;
+
 /// A journal. Contracts see both parts with the newest first.
 #[derive(Drop)]
 pub(crate) struct Journal {
     events: Packed,
     cut: usize,
+    /// The bytes of the events in front of the cut.
+    bytes_kept: usize,
     /// Whether an act since the last mark asks for the next one.
     asked: bool,
 }
@@ -26,21 +34,24 @@ impl Model for Journal {
     ghost use Rattle.std.specs.Prelude.{◌≡◌, ◌≤◌, length, reverse, take, drop};
     ghost use Rattle.samza_model.specs.Journals.{Trimmed};
     ghost use Rattle.samza_model.specs.Requests.{is_asked};
+    ghost use Rattle.packed_events.specs.Packed.{bytes_of};
 
     ghost Value = { Trimmed };
 
     ghost view = { λ j. record { since = reverse (drop j.cut j.events); kept = reverse (take j.cut j.events) } };
 
-    ghost invariant = { λ j. (j.cut ≤ length j.events) × (j.asked ≡ is_asked (reverse (drop j.cut j.events))) };
+    ghost invariant = { λ j. (j.cut ≤ length j.events) × (j.asked ≡ is_asked (reverse (drop j.cut j.events))) × (j.bytes_kept ≡ length (bytes_of (take j.cut j.events))) };
 }
 
 impl Journal {
+    #[tactic(auto, unfolding(packed_events::specs::Packed::bytes_of))]
     pub(crate) fn new(alloc: Global) -> Journal
         ensures { result ≡ record { since = []; kept = [] } }
     {
         Journal {
             events: Packed::new(alloc),
             cut: 0,
+            bytes_kept: 0,
             asked: false,
         }
     }
@@ -128,7 +139,9 @@ impl Journal {
     pub(crate) fn trim(&mut self, kept: Packed)
         ensures { self.new ≡ record { since = []; kept = reverse kept } }
     {
-        self.cut = kept.lens().0;
+        let (events, bytes) = kept.lens();
+        self.cut = events;
+        self.bytes_kept = bytes;
         self.events = kept;
         self.asked = false;
     }
@@ -140,11 +153,25 @@ impl Journal {
         self.events.lens().0 - self.cut
     }
 
+    /// How many bytes of keys and values are in the events since the last mark.
+    pub(crate) fn bytes(&self) -> usize
+        ensures { result ≡ size_of self.now.since }
+    {
+        self.events.lens().1 - self.bytes_kept
+    }
+
     /// Whether an act since the last mark asks for the next one.
     pub(crate) fn is_asked(&self) -> bool
         ensures { result ≡ is_asked self.now.since }
     {
         self.asked
+    }
+
+    /// Whether the events since the last mark ask for the next one: by an act, or as too many or too large.
+    pub(crate) fn is_due(&self) -> bool
+        ensures { result ≡ due_by self.now.since }
+    {
+        self.asked || EVENT_BOUND <= self.count() || BYTE_BOUND <= self.bytes()
     }
 
     /// The callbacks that a mark now doesn't cover.
