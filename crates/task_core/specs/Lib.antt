@@ -2,3 +2,4 @@ pub mod Acting
 pub mod Holding
 pub mod Noting
 pub mod Questions
+pub mod Seen

@@ -11,9 +11,11 @@ mod holdings;
 mod journals;
 mod parts;
 mod questions;
+mod seen;
 
 pub use applied::{Applied, Ask};
 pub use cores::Core;
 pub use faults::{ActFault, ApplyFault, DeliverFault, OpenWindowFault, QuestionFault};
 pub use holdings::Course;
 pub use questions::Question;
+pub use seen::LaneState;
