@@ -5,6 +5,7 @@ mod acting;
 mod applied;
 mod asking;
 mod asks;
+mod beginning;
 mod cores;
 mod faults;
 mod holdings;
