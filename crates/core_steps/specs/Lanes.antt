@@ -14,6 +14,16 @@ left [] ws = 0
 left (e ∷ es) [] = 0
 left (e ∷ es) (w ∷ ws) = (e - next_of w) + left es ws
 
+-- how many offsets there are from these starts to these ends
+abbrev pub between : List ℕ → List ℕ → ℕ
+between [] es = 0
+between (s ∷ ss) [] = 0
+between (s ∷ ss) (e ∷ es) = (e - s) + between ss es
+
+-- a window of this span from which nothing was delivered yet
+abbrev pub begun_lane : ℕ → ℕ → Window
+begun_lane span start = record { low = start; done = []; span = span }
+
 -- the window tells which offsets, from the start on and below the next one, are covered
 pub record IsLane (covered : ℕ → Bool) (start upto : ℕ) (w : Window) : Type 0 where
   pub after : start ≤ w.low

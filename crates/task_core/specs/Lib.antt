@@ -3,4 +3,5 @@ pub mod Delivering
 pub mod Holding
 pub mod Noting
 pub mod Questions
+pub mod Seen
 pub mod Telling

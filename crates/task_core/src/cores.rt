@@ -109,7 +109,6 @@ impl Core {
     /// Begins a callback on the next message of an input.
     fn begin(&mut self, input: u32, body: Record) -> Result<u64, NoMemory>
         requires input { input < length self.old.starts }
-        requires count { self.old.callbacks.next < 2 ^ 64 - 1 }
         requires may { MayBegin self.old input }
         ensures number { IfOk result (λ n. n ≡ self.old.callbacks.next) }
         ensures ok { OnOk result (self.new ≡ after_deliver self.old input body) }
@@ -215,7 +214,6 @@ impl Core {
     /// memory comes only where nothing else stands against the message.
     pub fn deliver(&mut self, input: u32, body: Record) -> Result<u64, DeliverFault>
         requires input { input < length self.old.starts }
-        requires count { self.old.callbacks.next < 2 ^ 64 - 1 }
         ensures added { OnOk result (Adds (IsBody input
             (next_at self.old input) body) self.old self.new (deliver_event self.old input body)) }
         ensures number { IfOk result (λ n. n ≡ self.old.callbacks.next) }
