@@ -10,10 +10,13 @@ mod faults;
 mod holdings;
 mod journals;
 mod parts;
+mod planning;
+mod plans;
 mod questions;
 
 pub use applied::{Applied, Ask};
 pub use cores::Core;
-pub use faults::{ActFault, ApplyFault, DeliverFault, OpenWindowFault, QuestionFault};
+pub use faults::{ActFault, ApplyFault, DeliverFault, OpenWindowFault, PlanFault, QuestionFault};
 pub use holdings::Course;
+pub use plans::{Kept, Plan};
 pub use questions::Question;
