@@ -19,6 +19,7 @@ ghost use Rattle.task_core.specs.declared.faults.DeliverFault.{DeliverFault as D
 ghost use Rattle.task_core.specs.Holding.{course_seen};
 ghost use Rattle.task_core.specs.declared.holdings.Course.{Course as CourseValue};
 ghost use Rattle.core_steps.specs.Lanes.{lane_at};
+ghost use Rattle.task_core.specs.Plans.{IsKept};
 ghost use Rattle.core_steps.specs.Cores.{CoreValue, IsCore, uncovered_now, Commits, IsCleared, after_commit, act_event, next_at, MayBegin, Adds, Keeps, IsBody, IsCallAct, IsWinAct, deliver_event, after_deliver, after_act, after_complete, after_failure, after_window_act, after_window_end, after_window_failure, after_open_window};
 
 use crate::asks::{greater_scope, shutdown_of};
@@ -29,6 +30,7 @@ use crate::parts::{
     act_noted, answers_of, begin_noted, complete_one, deliver_one, earlier, ended, failure_at,
     recycle,
 };
+use crate::plans::Kept;
 use callback_manager::{Callbacks, Entry};
 use kv_store::TrackedTable;
 use offset_window::OffsetWindow;
@@ -193,18 +195,16 @@ impl Core {
         Ok(())
     }
 
-    /// A mark was made that doesn't cover these callbacks. It takes no memory.
-    pub fn committed(&mut self, uncovered: &[u64], kept: Packed)
-        requires kept { reverse kept ≡ filter (belongs uncovered.now) (self.old.since
-            ++ self.old.kept) }
-        requires plan { uncovered.now ≡ uncovered_now self.old }
+    /// A mark was made, behind which this is kept. It takes no memory.
+    pub fn committed(&mut self, kept: Kept)
+        requires kept { IsKept self.old kept }
         requires last { self.old.last < 2 ^ 64 - 1 }
         ensures commits { Commits self.old self.new }
         ensures stands { IsCore self.old }
         ensures cleared { IsCleared self.old.held self.new.held }
         ensures made { self.new ≡ after_commit self.old self.new.held }
     {
-        self.journal.trim(kept);
+        self.journal.trim(kept.events);
         self.holdings.clear();
         self.times.committed();
         self.last += 1;
@@ -248,6 +248,21 @@ impl Core {
     /// The allocator that it was given.
     pub(crate) fn alloc(&self) -> Global {
         self.alloc
+    }
+
+    /// The last mark's number, 0 where there is none.
+    pub fn last(&self) -> u64
+        ensures last { result ≡ self.now.last }
+        ensures core { IsCore self.now }
+    {
+        self.last
+    }
+
+    /// The windows of the inputs' offsets.
+    pub(crate) fn lanes(&self) -> &[OffsetWindow]
+        ensures { result.now ≡ self.now.lanes }
+    {
+        self.lanes.as_slice()
     }
 
     pub fn stores(&self) -> &[TrackedTable]
@@ -321,14 +336,14 @@ impl Core {
     }
 
     /// The callbacks that a mark now doesn't cover.
-    pub fn uncovered(&self) -> Result<Vec<u64>, NoMemory>
+    pub(crate) fn uncovered(&self) -> Result<Vec<u64>, NoMemory>
         ensures { IfOk result (λ v. v.items ≡ uncovered_now self.now) }
     {
         self.journal.uncovered(self.alloc, self.lanes.as_slice())
     }
 
     /// The events that a mark now keeps, oldest first.
-    pub fn kept(&self, uncovered: &[u64]) -> Result<Packed, NoMemory>
+    pub(crate) fn kept(&self, uncovered: &[u64]) -> Result<Packed, NoMemory>
         ensures { IfOk result (λ kept. reverse kept ≡ filter (belongs uncovered.now)
             (self.now.since ++ self.now.kept)) }
     {

@@ -95,3 +95,26 @@ pub enum OpenWindowFault {
     Windowing,
     Busy,
 }
+
+/// Why no commit was planned.
+#[derive(Clone, Copy, Debug, PartialEq, Eq)]
+pub enum PlanFault {
+    /// A turn failed.
+    Failed,
+    /// A window is open.
+    Windowing,
+    /// So many callbacks are in flight, which the setup allows at no commit.
+    Busy { in_flight: u32 },
+    NoMemory,
+}
+
+impl From<NoMemory> for PlanFault {
+    ghost use Rattle.std.specs.Prelude.{◌≡◌};
+    ghost use Rattle.task_core.specs.declared.faults.PlanFault.TheVariants.{NoMemory as NoRoom};
+
+    ghost from_gives = { λ _ e. e ≡ NoRoom };
+
+    fn from(_: NoMemory) -> Self {
+        PlanFault::NoMemory
+    }
+}

@@ -11,14 +11,17 @@ mod faults;
 mod holdings;
 mod journals;
 mod parts;
+mod planning;
+mod plans;
 mod questions;
 mod seen;
 mod telling;
 
 pub use applied::{Applied, Ask};
 pub use cores::Core;
-pub use faults::{ActFault, ApplyFault, DeliverFault, OpenWindowFault, QuestionFault};
+pub use faults::{ActFault, ApplyFault, DeliverFault, OpenWindowFault, PlanFault, QuestionFault};
 pub use holdings::Course;
+pub use plans::{Kept, Plan};
 pub use questions::Question;
 pub use seen::LaneState;
 pub use telling::Status;
