@@ -1,4 +1,5 @@
 mod Failing
+mod Idle
 pub mod Undone
 pub mod Trimming
 mod Noted

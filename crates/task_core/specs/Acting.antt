@@ -1,14 +1,15 @@
 -- A callback's next act, and what it does to the turn.
-use Rattle.std.specs.Prelude.{ℕ, ◌≡◌, length, Option, Some, None, true, false}
+use Rattle.std.specs.Prelude.{ℕ, ◌≡◌, List, length, Option, Some, None, true, false}
 use Rattle.samza_model.specs.declared.acts.Act.{Act}
 use Rattle.samza_model.specs.declared.acts.Act.TheVariants.{AskCommit, AskShutdown}
+use Rattle.samza_model.specs.declared.acts.Answer.{Answer}
 use Rattle.samza_model.specs.declared.events.Event.{Event}
 use Rattle.samza_model.specs.declared.flights.Flight.{Flight}
 use Rattle.samza_model.specs.Events.{flight_of}
-use Rattle.samza_model.specs.Lawful.{call_event, course}
+use Rattle.samza_model.specs.Lawful.{call_event, window_event, course}
 use Rattle.samza_model.specs.Meaning.{Meaning}
 use Rattle.samza_model.specs.Runs.{End}
-use Rattle.core_steps.specs.Cores.{CoreValue, Adds, IsCallAct}
+use Rattle.core_steps.specs.Cores.{CoreValue, Adds, IsCallAct, IsWinAct}
 use Rattle.core_steps.specs.Held.{state_of}
 use Rattle.task_core.specs.declared.applied.Ask.{Ask}
 use Rattle.task_core.specs.declared.applied.Ask.TheVariants.{Commit, Shutdown}
@@ -33,6 +34,14 @@ course_of u f act = course u.setup (length f.answers) act
 -- the act was made on the callback: it was answered, or it ended the turn
 abbrev pub ActsOn : CoreValue → CoreValue → Flight → Act → Type 0
 ActsOn old new f act = Adds (IsCallAct f act) old new (call_event f (state_of old.held) act (course_of old f act))
+
+-- how a window goes on behind an act
+abbrev pub window_course : CoreValue → List Answer → Act → Option End
+window_course u answers act = course u.setup (length answers) act
+
+-- the act was made in the window that is open: it was answered, or it ended the window
+abbrev pub ActsInWindow : CoreValue → CoreValue → List Answer → Act → Type 0
+ActsInWindow old new answers act = Adds (IsWinAct answers act) old new (window_event answers (state_of old.held) act (window_course old answers act))
 
 -- the job's next act on a callback
 abbrev pub next_act : Meaning → Flight → Act

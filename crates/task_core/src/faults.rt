@@ -84,7 +84,10 @@ impl From<NoMemory> for ApplyFault {
 /// Why no window was opened.
 #[derive(Clone, Copy, Debug, PartialEq, Eq)]
 pub enum OpenWindowFault {
+    /// A turn failed.
     Failed,
+    /// A window is open.
     Windowing,
-    Busy,
+    /// Callbacks are in flight, so many of them.
+    Busy { in_flight: u32 },
 }

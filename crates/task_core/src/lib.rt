@@ -11,6 +11,7 @@ mod holdings;
 mod journals;
 mod parts;
 mod questions;
+mod windows;
 
 pub use applied::{Applied, Ask};
 pub use cores::Core;
