@@ -3,3 +3,4 @@ pub mod Holding
 pub mod Noting
 pub mod Opening
 pub mod Questions
+pub mod Stepping

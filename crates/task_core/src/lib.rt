@@ -11,6 +11,7 @@ mod holdings;
 mod journals;
 mod parts;
 mod questions;
+mod stepping;
 mod windows;
 
 pub use applied::{Applied, Ask};
@@ -18,3 +19,4 @@ pub use cores::Core;
 pub use faults::{ActFault, ApplyFault, DeliverFault, OpenWindowFault, QuestionFault};
 pub use holdings::Course;
 pub use questions::Question;
+pub use stepping::{Stepped, step};
