@@ -1,5 +1,5 @@
 -- An act that fails its turn.
-use Rattle.std.proofs.Common.{ℕ, ◌≡◌, ◌∙◌, List, length, Option, Some, None, ap, sym, subst}
+use Rattle.std.proofs.Common.{ℕ, ◌≡◌, ◌∙◌, List, length, Option, Some, ap, sym, subst}
 use Rattle.samza_model.specs.declared.acts.Act.{Act}
 use Rattle.samza_model.specs.declared.acts.Answer.{Answer}
 use Rattle.samza_model.specs.declared.turns.Why.{Why}

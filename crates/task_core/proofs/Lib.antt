@@ -1,3 +1,4 @@
+mod Asked
 mod Failing
 mod Idle
 pub mod Undone

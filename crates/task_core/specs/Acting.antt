@@ -3,7 +3,6 @@ use Rattle.std.specs.Prelude.{ℕ, ◌≡◌, List, length, Option, Some, None, 
 use Rattle.samza_model.specs.declared.acts.Act.{Act}
 use Rattle.samza_model.specs.declared.acts.Act.TheVariants.{AskCommit, AskShutdown}
 use Rattle.samza_model.specs.declared.acts.Answer.{Answer}
-use Rattle.samza_model.specs.declared.events.Event.{Event}
 use Rattle.samza_model.specs.declared.flights.Flight.{Flight}
 use Rattle.samza_model.specs.Events.{flight_of}
 use Rattle.samza_model.specs.Lawful.{call_event, window_event, course}
@@ -57,3 +56,11 @@ pub record IsAsked (job : Meaning) (u : CoreValue) (n : ℕ) (act : Act) (made :
   pub flies : flight_of n u.callbacks.flights ≡ Some flight
   pub act_is : act ≡ next_act job flight
   pub made_is : made ≡ length flight.answers
+
+-- the job's next act in a window
+abbrev pub next_in_window : Meaning → List Answer → Act
+next_in_window job answers = job.window answers
+
+-- what the job's next act in a window does to it
+abbrev pub applied_in_window : Meaning → CoreValue → List Answer → Applied
+applied_in_window job u answers = applied (next_in_window job answers) (window_course u answers (next_in_window job answers))

@@ -1,4 +1,5 @@
 pub mod Acting
+pub mod Applying
 pub mod Holding
 pub mod Noting
 pub mod Opening

@@ -65,8 +65,11 @@ impl From<NoMemory> for QuestionFault {
 /// Why an act wasn't applied.
 #[derive(Debug, Drop)]
 pub enum ApplyFault {
+    /// No callback with the question's number and envelope is in flight, or, for a window's question, no window is open.
     Unknown,
+    /// The turn was answered otherwise than the question says: so it was answered.
     Stale { answers: Items<Answer> },
+    /// Memory is wanting.
     NoMemory,
 }
 

@@ -3,6 +3,7 @@
 
 mod acting;
 mod applied;
+mod applying;
 mod asking;
 mod asks;
 mod cores;
