@@ -1,14 +1,14 @@
 -- A callback's next act, and what it does to the turn.
-use Rattle.std.specs.Prelude.{ℕ, ◌≡◌, length, Option, Some, None, true, false}
+use Rattle.std.specs.Prelude.{ℕ, ◌≡◌, List, length, Option, Some, None, true, false}
 use Rattle.samza_model.specs.declared.acts.Act.{Act}
 use Rattle.samza_model.specs.declared.acts.Act.TheVariants.{AskCommit, AskShutdown}
-use Rattle.samza_model.specs.declared.events.Event.{Event}
+use Rattle.samza_model.specs.declared.acts.Answer.{Answer}
 use Rattle.samza_model.specs.declared.flights.Flight.{Flight}
 use Rattle.samza_model.specs.Events.{flight_of}
-use Rattle.samza_model.specs.Lawful.{call_event, course}
+use Rattle.samza_model.specs.Lawful.{call_event, window_event, course}
 use Rattle.samza_model.specs.Meaning.{Meaning}
 use Rattle.samza_model.specs.Runs.{End}
-use Rattle.core_steps.specs.Cores.{CoreValue, Adds, IsCallAct}
+use Rattle.core_steps.specs.Cores.{CoreValue, Adds, IsCallAct, IsWinAct}
 use Rattle.core_steps.specs.Held.{state_of}
 use Rattle.task_core.specs.declared.applied.Ask.{Ask}
 use Rattle.task_core.specs.declared.applied.Ask.TheVariants.{Commit, Shutdown}
@@ -34,6 +34,14 @@ course_of u f act = course u.setup (length f.answers) act
 abbrev pub ActsOn : CoreValue → CoreValue → Flight → Act → Type 0
 ActsOn old new f act = Adds (IsCallAct f act) old new (call_event f (state_of old.held) act (course_of old f act))
 
+-- how a window goes on behind an act
+abbrev pub window_course : CoreValue → List Answer → Act → Option End
+window_course u answers act = course u.setup (length answers) act
+
+-- the act was made in the window that is open: it was answered, or it ended the window
+abbrev pub ActsInWindow : CoreValue → CoreValue → List Answer → Act → Type 0
+ActsInWindow old new answers act = Adds (IsWinAct answers act) old new (window_event answers (state_of old.held) act (window_course old answers act))
+
 -- the job's next act on a callback
 abbrev pub next_act : Meaning → Flight → Act
 next_act job f = job.act f.envelope f.answers
@@ -48,3 +56,11 @@ pub record IsAsked (job : Meaning) (u : CoreValue) (n : ℕ) (act : Act) (made :
   pub flies : flight_of n u.callbacks.flights ≡ Some flight
   pub act_is : act ≡ next_act job flight
   pub made_is : made ≡ length flight.answers
+
+-- the job's next act in a window
+abbrev pub next_in_window : Meaning → List Answer → Act
+next_in_window job answers = job.window answers
+
+-- what the job's next act in a window does to it
+abbrev pub applied_in_window : Meaning → CoreValue → List Answer → Applied
+applied_in_window job u answers = applied (next_in_window job answers) (window_course u answers (next_in_window job answers))

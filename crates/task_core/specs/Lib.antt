@@ -1,8 +1,11 @@
 pub mod Acting
+pub mod Applying
 pub mod Delivering
 pub mod Holding
 pub mod Noting
+pub mod Opening
 pub mod Plans
 pub mod Questions
 pub mod Seen
+pub mod Stepping
 pub mod Telling

@@ -29,7 +29,7 @@ impl Core {
     }
 
     /// Makes this act of a callback in flight that has so many answers: it is answered, or it ends the turn.
-    fn act_on(&mut self, number: u64, made: usize, act: Act) -> Result<Applied, NoMemory>
+    pub(crate) fn act_on(&mut self, number: u64, made: usize, act: Act) -> Result<Applied, NoMemory>
         requires flies { is_some (flight_of number self.old.callbacks.flights) ≡ true }
         requires made { (f : Flight) → flight_of number self.old.callbacks.flights ≡ Some f
             → made ≡ length f.answers }

@@ -72,8 +72,11 @@ impl From<NoMemory> for QuestionFault {
 /// Why an act wasn't applied.
 #[derive(Debug, Drop)]
 pub enum ApplyFault {
+    /// No callback with the question's number and envelope is in flight, or, for a window's question, no window is open.
     Unknown,
+    /// The turn was answered otherwise than the question says: so it was answered.
     Stale { answers: Items<Answer> },
+    /// Memory is wanting.
     NoMemory,
 }
 
@@ -91,9 +94,12 @@ impl From<NoMemory> for ApplyFault {
 /// Why no window was opened.
 #[derive(Clone, Copy, Debug, PartialEq, Eq)]
 pub enum OpenWindowFault {
+    /// A turn failed.
     Failed,
+    /// A window is open.
     Windowing,
-    Busy,
+    /// Callbacks are in flight, so many of them.
+    Busy { in_flight: u32 },
 }
 
 /// Why no commit was planned.

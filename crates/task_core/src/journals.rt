@@ -115,6 +115,27 @@ impl Journal {
         Ok(())
     }
 
+    /// A window's act more, made and answered. The one error is want of memory.
+    pub(crate) fn push_window_did(
+        &mut self,
+        place: u32,
+        act: &Act,
+        answer: &Answer,
+    ) -> Result<(), NoMemory>
+        ensures ok { OnOk result (self.new
+            ≡ record {
+              since = EventValue.WindowDid place act.now answer.now
+                  ∷ self.old.since;
+              kept = self.old.kept;
+            }) }
+        ensures err { OnErr result (self.new ≡ self.old) }
+    {
+        let asked = either(asks_here(act), self.asked);
+        self.events.push_window_did(place, act, answer)?;
+        self.asked = asked;
+        Ok(())
+    }
+
     /// Takes the newest event since the last mark back, if there is one.
     pub(crate) fn take_back(&mut self, asked: bool)
         requires { asked ≡ is_asked (drop 1 self.old.since) }

@@ -3,6 +3,7 @@
 
 mod acting;
 mod applied;
+mod applying;
 mod asking;
 mod asks;
 mod beginning;
@@ -15,7 +16,9 @@ mod planning;
 mod plans;
 mod questions;
 mod seen;
+mod stepping;
 mod telling;
+mod windows;
 
 pub use applied::{Applied, Ask};
 pub use cores::Core;
@@ -24,4 +27,5 @@ pub use holdings::Course;
 pub use plans::{Kept, Plan};
 pub use questions::Question;
 pub use seen::LaneState;
+pub use stepping::{Stepped, step};
 pub use telling::Status;

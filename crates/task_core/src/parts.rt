@@ -1,9 +1,10 @@
 // What calls do to the parts of a core: all of it, or nothing.
-ghost use Rattle.std.specs.Prelude.{◌≡◌, ◌+◌, ◌-◌, ◌^◌, ◌<◌, ◌≤◌, ◌∷◌, ◌++◌, [], length, true, false, is_some, Some, OnOk, OnErr, IfOk, slice_set};
+ghost use Rattle.std.specs.Prelude.{◌≡◌, ◌+◌, ◌-◌, ◌^◌, ◌<◌, ◌≤◌, ◌∷◌, ◌++◌, [], length, true, false, is_some, List, Some, OnOk, OnErr, IfOk, slice_set};
 ghost use Rattle.samza_model.specs.declared.flights.Flight.{Flight};
 ghost use Rattle.samza_model.specs.Events.{begun, flight_of, answered, without, earlier};
 ghost use Rattle.core_steps.specs.Places.{place_failure};
 ghost use Rattle.samza_model.specs.Limits.{act_fits};
+ghost use Rattle.samza_model.specs.declared.acts.Answer.{Answer as AnswerValue};
 ghost use Rattle.samza_model.specs.declared.events.Event.{Event};
 ghost use Rattle.offset_window.specs.Windows.{next_of, is_inside, is_done, delivered, completed};
 ghost use Rattle.callback_manager.specs.Callbacks.{entry_of};
@@ -159,20 +160,20 @@ pub(crate) fn act_noted(
 
 /// A window's act is made and answered, with its event.
 #[tactic(auto, using(crate::proofs::Undone::without_last))]
-pub(crate) fn window_act_noted(
+fn window_act_noted(
     setup: &Setup,
     answers: &mut Items<Answer>,
     journal: &mut Journal,
     holdings: &mut Holdings,
-    event: Event,
     answer: Answer,
     act: Act,
 ) -> Result<(), NoMemory>
+    requires few { length answers.old < 1023 }
     requires fits { act_fits setup.now act ≡ true }
     requires sized { IsSized setup.now (held holdings.old) }
     ensures answered { OnOk result (answers.new ≡ answers.old ++ answer ∷ []) }
     ensures noted { OnOk result (journal.new ≡ record {
-      since = event
+      since = Event.WindowDid (length answers.old) act answer
           ∷ journal.old.since;
       kept = journal.old.kept;
     }) }
@@ -182,7 +183,8 @@ pub(crate) fn window_act_noted(
     ensures err_holdings { OnErr result (held holdings.new ≡ held holdings.old) }
 {
     let asked = journal.is_asked();
-    journal.push(event)?;
+    let place = answers.as_slice().len() as u32;
+    journal.push_window_did(place, &act, &answer)?;
     if let Err(fault) = answers.push(answer) {
         journal.take_back(asked);
         return Err(fault);
@@ -193,6 +195,39 @@ pub(crate) fn window_act_noted(
         return Err(fault);
     }
     Ok(())
+}
+
+/// An act of the window that is open is made and answered, with its event.
+pub(crate) fn open_act_noted(
+    setup: &Setup,
+    window: &mut Option<Items<Answer>>,
+    journal: &mut Journal,
+    holdings: &mut Holdings,
+    answer: Answer,
+    act: Act,
+) -> Result<(), NoMemory>
+    requires window { is_some window.old ≡ true }
+    requires few { (answers : List AnswerValue) → window.old ≡ Some answers
+        → length answers < 1023 }
+    requires fits { act_fits setup.now act ≡ true }
+    requires sized { IsSized setup.now (held holdings.old) }
+    ensures answered { (answers : List AnswerValue) → window.old ≡ Some answers
+        → OnOk result (window.new ≡ Some (answers ++ answer ∷ [])) }
+    ensures noted { (answers : List AnswerValue) → window.old ≡ Some answers
+        → OnOk result (journal.new ≡ record {
+          since = Event.WindowDid (length answers) act answer
+              ∷ journal.old.since;
+          kept = journal.old.kept;
+        }) }
+    ensures made { OnOk result (held holdings.new ≡ held_after (held holdings.old) act) }
+    ensures err_window { OnErr result (window.new ≡ window.old) }
+    ensures err_journal { OnErr result (journal.new ≡ journal.old) }
+    ensures err_holdings { OnErr result (held holdings.new ≡ held holdings.old) }
+{
+    match window {
+        Some(answers) => window_act_noted(setup, answers, journal, holdings, answer, act),
+        None => Err(NoMemory),
+    }
 }
 
 /// How many answers a callback in flight has.
