@@ -45,50 +45,6 @@ fn refusal(broken: bool, core: &Core) -> Option<CommitFault>
     Some(CommitFault::Busy { in_flight })
 }
 
-/// What a commit appends, how far the logs reach behind it, and the checkpoint that it makes. `Limit` comes where one of the
-/// files would pass 2^40 bytes.
-fn plan_of(
-    alloc: Global,
-    core: &Core,
-    logs: &Logs,
-) -> Result<(Plan, Reach, Checkpoint), CommitFault>
-    requires set_up { IsSetUp core.now.setup }
-    requires changelogs { length logs.now.changelogs.items ≡ length core.now.setup.stores }
-    requires outputs { length logs.now.outputs.items ≡ length core.now.setup.outputs }
-    ensures planned { IfOk result (λ r. PlansCommit core.now.setup logs.now core.now.held
-        (lane_at core.now.lanes 0).low r.0 r.2) }
-    ensures reaches { IfOk result (λ r. Reaches logs.now r.0 r.1) }
-    ensures limit { IfErr result (λ e. e ≡ CommitFault.Limit
-        → LacksRoomFor core.now.setup logs.now core.now.held (lane_at core.now.lanes 0).low) }
-    ensures fault { IfErr result (λ e. (e ≡ CommitFault.NoMemory) ⊎ (e ≡ CommitFault.Limit)) }
-    ensures core { IsCore core.now }
-{
-    let _number = core.number();
-    match plan_commit(
-        alloc,
-        core.setup(),
-        logs,
-        core.stores(),
-        core.outputs(),
-        core.low(0),
-    ) {
-        Ok(planned) => Ok(planned),
-        Err(fault) => Err(fault),
-    }
-}
-
-/// The callbacks that a mark now doesn't cover, and the events that it keeps.
-fn keep(core: &Core) -> Result<(Vec<u64>, Packed), CommitFault>
-    ensures uncovered { IfOk result (λ r. r.0.items ≡ uncovered_now core.now) }
-    ensures kept { IfOk result (λ r. reverse r.1
-        ≡ filter (belongs r.0.items) (core.now.since ++ core.now.kept)) }
-    ensures fault { IfErr result (λ e. e ≡ CommitFault.NoMemory) }
-{
-    let uncovered = core.uncovered()?;
-    let kept = core.kept(uncovered.as_slice())?;
-    Ok((uncovered, kept))
-}
-
 /// Takes the memory for one mark more.
 fn make_room(marks: &mut Vec<KeptMark>) -> Result<(), CommitFault>
     ensures same { marks.new.items ≡ marks.old.items }

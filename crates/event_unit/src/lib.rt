@@ -3,9 +3,12 @@
 
 mod acting;
 mod committing;
+mod delivering;
 mod units;
 
 pub use committing::Mark;
-pub use task_core::{ActFault, Applied, Ask, Question, QuestionFault};
+pub use task_core::{
+    ActFault, Applied, ApplyFault, Ask, DeliverFault, LaneState, Question, QuestionFault, Stepped, step,
+};
 pub use units::TaskUnit;
 pub use unit_logs::CommitFault;

@@ -83,7 +83,7 @@ impl Model for Core {
 
 impl Core {
     /// Why no message of this input may be delivered; none where one may.
-    fn refusal(&self, input: u32) -> Option<DeliverFault>
+    pub fn refusal(&self, input: u32) -> Option<DeliverFault>
         requires input { input < length self.now.starts }
         ensures refusal { result ≡ refusal self.now input }
         ensures may { result ≡ None → MayBegin self.now input }

@@ -7,6 +7,8 @@ use samza_model::{Answer, Items, NoMemory};
 pub enum DeliverFault {
     /// A callback or a window failed.
     Failed,
+    /// An earlier commit answered `Device`: a unit's answer, and never a core's. Open the task anew.
+    Broken,
     /// A window is open.
     Windowing,
     /// The input's next offset is its end.
