@@ -2,13 +2,16 @@
 #![tactic(auto)]
 
 mod acting;
+mod applying;
 mod committing;
 mod delivering;
+mod telling;
 mod units;
 
 pub use committing::Mark;
 pub use task_core::{
-    ActFault, Applied, ApplyFault, Ask, DeliverFault, LaneState, Question, QuestionFault, Stepped, step,
+    ActFault, Applied, ApplyFault, Ask, DeliverFault, LaneState, Question, QuestionFault, Status, Stepped,
+    step,
 };
 pub use units::TaskUnit;
 pub use unit_logs::CommitFault;

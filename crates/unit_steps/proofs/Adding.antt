@@ -9,14 +9,14 @@ use Rattle.samza_model.specs.Events.{older, low}
 use Rattle.samza_model.specs.Lawful.{Given, start_at}
 use Rattle.samza_model.specs.Partition.{partition_of}
 use Rattle.samza_model.specs.Restored.{next_at, Restores}
-use Rattle.core_steps.specs.Cores.{CoreValue, Outside, given, Adds as CoreAdds, Stands as CoreStands}
+use Rattle.core_steps.specs.Cores.{CoreValue, Outside, given, Adds as CoreAdds, Keeps as CoreKeeps, Stands as CoreStands}
 use Rattle.core_steps.proofs.Steps.{older_more}
 use Rattle.samza_model.specs.declared.marks.KeptMark.{KeptMark}
 use Rattle.samza_model.specs.Histories.{History, all_of, whole, marked, marked_at, with_event}
 use Rattle.samza_model.specs.Requests.{IsPrompt}
 use Rattle.unit_steps.specs.Following.{MayFollow}
 use Rattle.samza_model.specs.Marks.{AreMarks, Files, FromMark, FromBegun, MayBegun, RestoresTo, ImagesStand}
-use Rattle.unit_steps.specs.Units.{UnitValue, Stands, Adds, SameGiven}
+use Rattle.unit_steps.specs.Units.{UnitValue, Stands, Adds, Keeps, SameGiven}
 
 -- the unit with another core
 abbrev pub with_core : {P D S : Type 0} → UnitValue P D S → CoreValue → UnitValue P D S
@@ -91,5 +91,28 @@ module _ {P D S : Type 0} (meaning : P → Meaning) (tells : Type 0) (reads : D 
           prompt = λ sync.
               let before = ap (λ (k : Given). k.setup.async_commit) (sym same) ∙ sync in
               (prompt_more e t.since (subst (λ (l : List Event). MayFollow e l) s.journal (follows before)) (s.prompt before).0, (s.prompt before).1);
+        };
+  }
+
+  pub keeps : (old : UnitValue P D S) (core : CoreValue) → CoreKeeps old.core core → Keeps meaning tells reads number images since old (with_core old core)
+  keeps old core k = record {
+    same = record { job = refl; shelf = refl; messages = refl; core = k.same };
+    last = k.last;
+    disk = refl;
+    marks = (refl, refl, refl);
+    history = λ o t s.
+        let same = k.same o in
+        record {
+          job = s.job;
+          parts = s.parts;
+          opened = λ told m at. subst (λ (g : Given). Restores g.setup t.before m.checkpoint o.state.stores) (sym same) (s.opened told m at);
+          core = k.history o (whole t) (length (marked t)) s.core;
+          journal = k.journal ∙ s.journal;
+          marks = subst (λ (g : Given). AreMarks g t.parts old.marks) (sym same) s.marks;
+          files = λ b told. subst (λ (g : Given). Files g t old.marks (reads old.disk)) (sym same) (s.files b told);
+          crash = λ told. subst (λ (g : Given). ImagesStand number images since old.disk g t old.marks old.begun) (sym same) (s.crash told);
+          begun = s.begun;
+          sound = s.sound;
+          prompt = λ sync. s.prompt (ap (λ (g : Given). g.setup.async_commit) (sym same) ∙ sync);
         };
   }

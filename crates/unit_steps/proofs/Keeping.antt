@@ -14,7 +14,7 @@ use Rattle.unit_logs.specs.declared.writing.Logs.{Logs}
 use Rattle.unit_logs.specs.Standing.{IsSetUp}
 use Rattle.samza_model.specs.Histories.{with_event}
 use Rattle.samza_model.specs.Marks.{last_mark}
-use Rattle.unit_steps.specs.Units.{UnitValue, Stands, Adds, IsUnit, OpenOnDisk}
+use Rattle.unit_steps.specs.Units.{UnitValue, Stands, Adds, Keeps, IsUnit, OpenOnDisk}
 use Rattle.unit_steps.proofs.Adding.{with_core}
 
 -- the body is the partition's, where that is the unit's messages
@@ -44,4 +44,22 @@ module _ {P D S : Type 0} (meaning : P → Meaning) (tells : Type 0) (reads : D 
         outside = inv.outside;
         history = with_event e inv.history;
         stands = a.history inv.outside inv.history inv.stands;
+      }
+
+  pub stays_unit : (logs : Logs) (old : UnitValue P D S) (core : CoreValue) → IsUnit meaning tells reads number images since logs old
+      → Keeps meaning tells reads number images since old (with_core old core) → IsUnit meaning tells reads number images since logs (with_core old core)
+  stays_unit logs old core inv k =
+      let same : old.core.setup ≡ core.setup = sym (ap (λ g. g.setup) (k.same.core inv.outside)) in
+      record {
+        set_up = subst (λ (s : Setup). IsSetUp s) same inv.set_up;
+        changelogs_are = subst (λ (s : Setup). length logs.changelogs.items ≡ length s.stores) same inv.changelogs_are;
+        outputs_are = subst (λ (s : Setup). length logs.outputs.items ≡ length s.outputs) same inv.outputs_are;
+        ends = ap (λ g. g.ends) (k.same.core inv.outside) ∙ inv.ends;
+        sound = inv.sound;
+        counted = inv.counted;
+        last = k.last ∙ inv.last;
+        on_disk = λ b told. subst (λ (s : Setup). OpenOnDisk (reads old.disk) (images old.disk) s logs (last_mark old.marks)) same (inv.on_disk b told);
+        outside = inv.outside;
+        history = inv.history;
+        stands = k.history inv.outside inv.history inv.stands;
       }

@@ -70,6 +70,15 @@ pub record Adds {P D S : Type 0} (meaning : P → Meaning) (tells : Type 0) (rea
   pub history : (o : Outside) (t : History) → Stands meaning tells reads number images since o old t
       → Stands meaning tells reads number images since o new (with_event e t)
 
+-- nothing has changed but what no event tells: by whatever events the unit stood before, it stands by the same
+pub record Keeps {P D S : Type 0} (meaning : P → Meaning) (tells : Type 0) (reads : D → Image) (number : D → ℕ) (images : D → Image → Type 0) (since : D → ℕ → Image → Type 0) (old new : UnitValue P D S) : Type 0 where
+  pub same : SameGiven old new
+  pub last : new.core.last ≡ old.core.last
+  pub disk : new.disk ≡ old.disk
+  pub marks : (new.marks ≡ old.marks) × (new.begun ≡ old.begun) × (new.broken ≡ old.broken)
+  pub history : (o : Outside) (t : History) → Stands meaning tells reads number images since o old t
+      → Stands meaning tells reads number images since o new t
+
 -- by whatever events it stood before, it stands by the same, and all of them are behind a new mark
 pub record Marks {P D S : Type 0} (meaning : P → Meaning) (tells : Type 0) (reads : D → Image) (number : D → ℕ) (images : D → Image → Type 0) (since : D → ℕ → Image → Type 0) (old new : UnitValue P D S) (made : Checkpoint) : Type 0 where
   pub same : SameGiven old new
