@@ -1,3 +1,4 @@
 pub mod MemorySink
 pub mod Received
 pub mod StdSink
+pub mod Turns

@@ -1,4 +1,4 @@
-//! What the container sees of its machine: disks and folders in memory, real folders, and sinks, where calls go well and where they
+//! What the container sees of its machine: disks and folders in memory, real folders, sinks and turns, where calls go well and where they
 //! are told to fail.
 #![tactic(auto)]
 
@@ -10,3 +10,5 @@ mod folders;
 mod memory;
 #[cfg(test)]
 mod sinks;
+#[cfg(test)]
+mod turns;
