@@ -8,16 +8,13 @@ ghost use Rattle.core_steps.specs.Held.{contents_of};
 ghost use Rattle.core_steps.specs.Lanes.{begun_lane, between};
 ghost use Rattle.core_steps.specs.Laws.{IsFresh};
 ghost use Rattle.core_steps.specs.Setups.{IsRunnable};
-ghost use Rattle.task_core.specs.Holding.{held};
 
 use crate::cores::Core;
-use crate::holdings::Holdings;
-use crate::journals::Journal;
 use callback_manager::Callbacks;
-use kv_store::{Table, TrackedTable};
+use core_parts::{Holdings, Journal, begin_lanes, hold};
+use kv_store::Table;
 use offset_window::OffsetWindow;
-use output_log::Outputs;
-use samza_model::{Items, NoMemory, Setup, put};
+use samza_model::{Items, NoMemory, Setup};
 use std::alloc::Global;
 use window_timer::Times;
 
@@ -27,42 +24,6 @@ struct Begun {
     lanes: Vec<OffsetWindow>,
     callbacks: Callbacks,
     holdings: Holdings,
-}
-
-/// A window at each start, from which nothing was delivered.
-fn begin_lanes(alloc: Global, starts: &[u64], span: u32) -> Result<Vec<OffsetWindow>, NoMemory>
-    ensures { IfOk result (λ lanes. lanes.items ≡ map (begun_lane span) starts.now) }
-{
-    let mut lanes = Vec::new(alloc);
-    for i in 0..starts.len() {
-        put(&mut lanes, OffsetWindow::new(alloc, starts[i], span)?)?;
-    }
-    Ok(lanes)
-}
-
-/// The tables as stores in which no key is dirty.
-fn track_all(alloc: Global, tables: Items<Table>) -> Result<Vec<TrackedTable>, NoMemory>
-    requires { All AreWithinLimits tables }
-    ensures contents { IfOk result (λ r. contents_of r.items ≡ tables) }
-    ensures clean { IfOk result (λ r. AreClean r.items) }
-{
-    let mut stores = Vec::new(alloc);
-    for table in tables.into_vec() {
-        put(&mut stores, TrackedTable::with(alloc, table))?;
-    }
-    Ok(stores)
-}
-
-/// The stores, and so many outputs to which nothing was sent.
-fn hold(alloc: Global, tables: Items<Table>, outputs: u32) -> Result<Holdings, NoMemory>
-    requires { All AreWithinLimits tables }
-    ensures contents { IfOk result (λ h. contents_of (held h).stores ≡ tables) }
-    ensures clean { IfOk result (λ h. AreClean (held h).stores) }
-    ensures unsent { IfOk result (λ h. AreUnsent outputs (held h)) }
-{
-    let stores = track_all(alloc, tables)?;
-    let outputs = Outputs::new(alloc, outputs)?;
-    Ok(Holdings::new(alloc, stores, outputs))
 }
 
 /// How many outputs a setup has.
@@ -86,9 +47,9 @@ fn begin(
     ensures lanes { IfOk result (λ b. b.lanes.items ≡ map (begun_lane setup.now.span) starts.now) }
     ensures callbacks { IfOk result (λ b. b.callbacks
         ≡ record { flights = []; next = 0; limit = setup.now.concurrency }) }
-    ensures contents { IfOk result (λ b. contents_of (held b.holdings).stores ≡ tables) }
-    ensures clean { IfOk result (λ b. AreClean (held b.holdings).stores) }
-    ensures unsent { IfOk result (λ b. AreUnsent (length setup.now.outputs) (held b.holdings)) }
+    ensures contents { IfOk result (λ b. contents_of b.holdings.stores ≡ tables) }
+    ensures clean { IfOk result (λ b. AreClean b.holdings.stores) }
+    ensures unsent { IfOk result (λ b. AreUnsent (length setup.now.outputs) b.holdings) }
 {
     let lanes = begin_lanes(alloc, starts, setup.span)?;
     let callbacks = Callbacks::new(alloc, setup.concurrency)?;
