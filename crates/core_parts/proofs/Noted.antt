@@ -1,12 +1,12 @@
 -- One event more.
 use Rattle.std.proofs.Common.{ℕ, ◌≡◌, Bool, true, false, List, [], ◌∷◌, ◌++◌, reverse, refl, sym, ◌∙◌, ap, append-nil, leb, take, ◌+◌}
 use Rattle.std.proofs.lemmas.List.{reverse-append}
+use Rattle.std.specs.Prelude.{Option, Some, None, if◌then◌else◌}
 use Rattle.samza_model.specs.declared.events.Event.{Event}
 use Rattle.samza_model.specs.declared.events.Event.TheVariants.{Deliver, Did, Complete, Failed, WindowDid, WindowEnded}
 use Rattle.samza_model.specs.Journals.{uncovered_by}
-use Rattle.std.specs.Prelude.{Option, Some, None, if◌then◌else◌}
-use Rattle.core_parts.specs.Noting.{listed, noted_number, noted_in}
 use Rattle.packed_events.specs.Packed.{delivered_of}
+use Rattle.core_parts.specs.Noting.{listed, noted_number, noted_in}
 
 one_more : (xs : List ℕ) (o : Option ℕ) → reverse (xs ++ listed o) ≡ listed o ++ reverse xs
 one_more xs None = ap reverse (append-nil xs)

@@ -1,5 +1,5 @@
 // What acts ask for.
-ghost use Rattle.std.specs.Prelude.{◌≡◌, ◌||◌, Some, false, true};
+ghost use Rattle.std.specs.Prelude.{◌≡◌, Some, false, true};
 ghost use Rattle.samza_model.specs.Requests.{asks_here, asks_commit, greater_scope, shutdown_of};
 
 use samza_model::{Act, Event, Scope};

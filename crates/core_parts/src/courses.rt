@@ -1,5 +1,5 @@
 // How a turn goes on behind an act.
-ghost use Rattle.std.specs.Prelude.{◌≡◌, ◌≢◌, ◌<◌, length, true, Some, None, ◌&&◌, if◌then◌else◌};
+ghost use Rattle.std.specs.Prelude.{◌≡◌, ◌≢◌, ◌<◌, true, Some, None, ◌&&◌, if◌then◌else◌};
 ghost use Rattle.std.specs.Option.{option_copied};
 ghost use Rattle.samza_model.specs.declared.acts.Act.{Act};
 ghost use Rattle.samza_model.specs.declared.turns.Why.{Why};
@@ -11,8 +11,11 @@ use samza_model::{Act, Bin, Setup, Why};
 
 /// How a turn goes on behind an act.
 pub enum Course {
+    /// The act is answered, and another one follows.
     GoesOn,
+    /// The turn ends well.
     Done,
+    /// The turn fails.
     Failed(Why),
 }
 

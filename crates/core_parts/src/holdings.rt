@@ -36,7 +36,7 @@ impl Model for Holdings {
 
 impl Holdings {
     /// These stores, in the setup's order, and these outputs.
-    pub fn new(alloc: Global, stores: Vec<TrackedTable>, outputs: Outputs) -> Holdings
+    pub(crate) fn new(alloc: Global, stores: Vec<TrackedTable>, outputs: Outputs) -> Holdings
         ensures { result
             ≡ record { stores = stores.items; unsent = outputs.unsent; cleared = outputs.cleared } }
     {
@@ -85,7 +85,7 @@ impl Holdings {
 
     /// What an act leaves: a key of a store set or taken away, a record sent to an output, or all as it was. The one error is want
     /// of memory, and it leaves all as it was.
-    pub fn change(&mut self, setup: &Setup, act: Act) -> Result<(), NoMemory>
+    pub(crate) fn change(&mut self, setup: &Setup, act: Act) -> Result<(), NoMemory>
         requires fits { act_fits setup.now act ≡ true }
         requires sized { IsSized setup.now self.old }
         ensures ok { OnOk result (self.new ≡ held_after self.old act) }

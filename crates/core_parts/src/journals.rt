@@ -1,8 +1,8 @@
 // The events since the last mark, and those kept from before.
-ghost use Rattle.std.specs.Prelude.{◌≡◌, ◌∷◌, ◌++◌, [], drop, filter, OnOk, OnErr, IfOk, List, reverse, length, true, ◌||◌, nat_le, Some, None, if◌then◌else◌};
+ghost use Rattle.std.specs.Prelude.{◌≡◌, ◌∷◌, ◌++◌, [], drop, filter, OnOk, OnErr, IfOk, reverse, length, ◌||◌, nat_le, Some, None, if◌then◌else◌};
 ghost use Rattle.samza_model.specs.declared.events.Event.{Event as EventValue};
 ghost use Rattle.samza_model.specs.Journals.{belongs, uncovered_by};
-ghost use Rattle.samza_model.specs.Requests.{is_asked, asks_commit, asks_here, size_of, due_by};
+ghost use Rattle.samza_model.specs.Requests.{is_asked, asks_here, size_of, due_by};
 ghost use Rattle.core_steps.specs.Lanes.{lane_at};
 ghost use Rattle.core_parts.specs.Noting.{listed, noted_in};
 

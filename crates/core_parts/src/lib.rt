@@ -9,7 +9,7 @@ mod journals;
 mod parts;
 
 pub use asks::{greater_scope, shutdown_of};
-pub use beginning::{begin_lanes, hold};
+pub use beginning::{Begun, begin};
 pub use courses::{Course, course_at};
 pub use holdings::Holdings;
 pub use journals::{Journal, low_at};

@@ -1,5 +1,5 @@
 // What calls do to the parts of a core: all of it, or nothing.
-ghost use Rattle.std.specs.Prelude.{◌≡◌, ◌+◌, ◌-◌, ◌^◌, ◌<◌, ◌≤◌, ◌∷◌, ◌++◌, [], length, true, false, is_some, List, Some, OnOk, OnErr, IfOk, slice_set};
+ghost use Rattle.std.specs.Prelude.{◌≡◌, ◌+◌, ◌-◌, ◌^◌, ◌<◌, ◌∷◌, ◌++◌, [], length, true, false, is_some, List, Some, OnOk, OnErr, IfOk, slice_set};
 ghost use Rattle.samza_model.specs.declared.acts.Answer.{Answer as AnswerValue};
 ghost use Rattle.samza_model.specs.declared.events.Event.{Event};
 ghost use Rattle.samza_model.specs.declared.flights.Flight.{Flight};

@@ -1,65 +1,20 @@
 // Where a core begins: its lanes at their starts, no callback, and its stores as they were restored.
-ghost use Rattle.std.specs.Prelude.{ℕ, ◌≡◌, ◌^◌, ◌<◌, ◌≤◌, [], All, length, map, IfOk, slice_index_or};
+ghost use Rattle.std.specs.Prelude.{ℕ, ◌≡◌, ◌^◌, ◌<◌, ◌≤◌, [], All, length, IfOk, slice_index_or};
 ghost use Rattle.samza_model.specs.Ran.{fresh};
 ghost use Rattle.kv_store.specs.Tracked.{AreWithinLimits};
 ghost use Rattle.core_steps.specs.Begun.{AreClean, AreUnsent, IsGiven};
 ghost use Rattle.core_steps.specs.Cores.{Outside, Stands};
 ghost use Rattle.core_steps.specs.Held.{contents_of};
-ghost use Rattle.core_steps.specs.Lanes.{begun_lane, between};
+ghost use Rattle.core_steps.specs.Lanes.{between};
 ghost use Rattle.core_steps.specs.Laws.{IsFresh};
 ghost use Rattle.core_steps.specs.Setups.{IsRunnable};
 
 use crate::cores::Core;
-use callback_manager::Callbacks;
-use core_parts::{Holdings, Journal, begin_lanes, hold};
+use core_parts::{Begun, Journal, begin};
 use kv_store::Table;
-use offset_window::OffsetWindow;
 use samza_model::{Items, NoMemory, Setup};
 use std::alloc::Global;
 use window_timer::Times;
-
-/// What a core begins with, beside what it was given.
-#[derive(Drop)]
-struct Begun {
-    lanes: Vec<OffsetWindow>,
-    callbacks: Callbacks,
-    holdings: Holdings,
-}
-
-/// How many outputs a setup has.
-#[tactic(auto, using(core_steps::proofs::Setups::few_outputs))]
-fn output_count(setup: &Setup) -> u32
-    requires { IsRunnable setup.now }
-    ensures { result ≡ length setup.now.outputs }
-{
-    setup.outputs.as_slice().len() as u32
-}
-
-/// What a core of this setup begins with.
-fn begin(
-    alloc: Global,
-    setup: &Setup,
-    starts: &[u64],
-    tables: Items<Table>,
-) -> Result<Begun, NoMemory>
-    requires runnable { IsRunnable setup.now }
-    requires limits { All AreWithinLimits tables }
-    ensures lanes { IfOk result (λ b. b.lanes.items ≡ map (begun_lane setup.now.span) starts.now) }
-    ensures callbacks { IfOk result (λ b. b.callbacks
-        ≡ record { flights = []; next = 0; limit = setup.now.concurrency }) }
-    ensures contents { IfOk result (λ b. contents_of b.holdings.stores ≡ tables) }
-    ensures clean { IfOk result (λ b. AreClean b.holdings.stores) }
-    ensures unsent { IfOk result (λ b. AreUnsent (length setup.now.outputs) b.holdings) }
-{
-    let lanes = begin_lanes(alloc, starts, setup.span)?;
-    let callbacks = Callbacks::new(alloc, setup.concurrency)?;
-    let holdings = hold(alloc, tables, output_count(setup))?;
-    Ok(Begun {
-        lanes,
-        callbacks,
-        holdings,
-    })
-}
 
 impl Core {
     /// A core of a task that begins at this moment, in milliseconds: each input at its start, behind whose end it has no

@@ -2,8 +2,8 @@
 ghost use Rattle.std.specs.Prelude.{ℕ, ◌≡◌, ◌↔◌, ◌<◌, ◌≤◌, length, Some, None, IfSome, slice_get};
 ghost use Rattle.std.specs.FinMap as map;
 ghost use Rattle.callback_manager.specs.Callbacks.{numbers};
-ghost use Rattle.core_steps.specs.Held.{tracked_at};
 ghost use Rattle.output_log.specs.Outputs.{sent_count};
+ghost use Rattle.core_steps.specs.Held.{tracked_at};
 ghost use Rattle.task_core.specs.Seen.{lane_state, sent_of};
 
 use crate::cores::Core;

@@ -1,8 +1,8 @@
 use Rattle.std.proofs.Common.{◌∙◌, ◌<◌, ap, arith, length}
 use Rattle.std.proofs.Math.Seq.{map-set_same}
 use Rattle.std.proofs.lemmas.List.{get_or_read, length-map}
-use Rattle.kv_store.specs.Tracked.{Tracked, no_keys}
 use Rattle.samza_model.specs.Content.{nothing_stored}
+use Rattle.kv_store.specs.Tracked.{Tracked, no_keys}
 use Rattle.core_parts.proofs.holdings.flush_all.Goals as goal
 
 pub loop-i-preserved : goal.loop-i-preserved

@@ -1,7 +1,7 @@
 use Rattle.std.proofs.Common.{◌++◌, ◌∙◌, ap}
 use Rattle.core_steps.specs.Lanes.{lane_at}
-use Rattle.core_parts.proofs.Noted.{none_noted, next_noted, noted_same}
 use Rattle.core_parts.specs.Noting.{listed, noted_in}
+use Rattle.core_parts.proofs.Noted.{none_noted, next_noted, noted_same}
 use Rattle.core_parts.proofs.journals.noted.Goals as goal
 
 pub loop-i-init : goal.loop-i-init
