@@ -10,12 +10,12 @@ use Rattle.samza_model.specs.declared.turns.Turn.TheVariants.{Call, Window}
 use Rattle.samza_model.specs.Events.{flight_of}
 use Rattle.samza_model.specs.Meaning.{Meaning}
 use Rattle.core_steps.specs.Cores.{CoreValue}
-use Rattle.task_core.specs.Acting.{next_act, next_in_window}
-use Rattle.task_core.specs.Applying.{IsAnswered, IsUnknown, IsStale, envelope_in}
 use Rattle.task_core.specs.declared.applied.Applied.{Applied}
 use Rattle.task_core.specs.declared.faults.ApplyFault.{ApplyFault}
 use Rattle.task_core.specs.declared.faults.ApplyFault.TheVariants.{Unknown, Stale, NoMemory}
 use Rattle.task_core.specs.declared.questions.Question.{Question}
+use Rattle.task_core.specs.Acting.{next_act, next_in_window}
+use Rattle.task_core.specs.Applying.{IsAnswered, IsUnknown, IsStale, envelope_in}
 use Rattle.task_core.specs.Questions.{question_of, call_question, window_question}
 use Rattle.task_core.specs.Stepping.{IsNext, next_in}
 

@@ -2,9 +2,9 @@
 use Rattle.std.proofs.Common.{ℕ, ◌≡◌, ◌∙◌, List, length, Option, Some, ap, sym, subst}
 use Rattle.samza_model.specs.declared.acts.Act.{Act}
 use Rattle.samza_model.specs.declared.acts.Answer.{Answer}
-use Rattle.samza_model.specs.declared.turns.Why.{Why}
 use Rattle.samza_model.specs.declared.events.Event.TheVariants.{Failed}
 use Rattle.samza_model.specs.declared.flights.Flight.{Flight}
+use Rattle.samza_model.specs.declared.turns.Why.{Why}
 use Rattle.samza_model.specs.Lawful.{call_event, window_event, course, failure_of, window_failure}
 use Rattle.samza_model.specs.Runs.{End}
 use Rattle.core_steps.specs.Cores.{CoreValue, Adds, IsCallAct, IsWinAct}

@@ -1,7 +1,7 @@
 -- The checkpoint of a plan is a mark of the events by which the core stands.
 use Rattle.std.proofs.Common.{ℕ, ◌≡◌, ◌∙◌, ◌+◌, ◌&&◌, List, [], ◌∷◌, length, Option, Some, None, Bool, true, false, not, is_some, if◌then◌else◌, refl, sym, ap, subst, arith, rules, true≢false}
-use Rattle.std.specs.Prelude.{nat_lt}
 use Rattle.std.proofs.lemmas.Option.{none-some}
+use Rattle.std.specs.Prelude.{nat_lt}
 use Rattle.samza_model.specs.declared.acts.Answer.{Answer}
 use Rattle.samza_model.specs.declared.flights.Flight.{Flight}
 use Rattle.samza_model.specs.declared.turns.Failure.{Failure}

@@ -10,9 +10,9 @@ use Rattle.samza_model.specs.Meaning.{Meaning}
 use Rattle.samza_model.specs.Runs.{End}
 use Rattle.core_steps.specs.Cores.{CoreValue, Adds, IsCallAct, IsWinAct}
 use Rattle.core_steps.specs.Held.{state_of}
+use Rattle.task_core.specs.declared.applied.Applied.{Applied}
 use Rattle.task_core.specs.declared.applied.Ask.{Ask}
 use Rattle.task_core.specs.declared.applied.Ask.TheVariants.{Commit, Shutdown}
-use Rattle.task_core.specs.declared.applied.Applied.{Applied}
 
 -- what an act asks the container for
 abbrev pub ask_of : Act → Option Ask

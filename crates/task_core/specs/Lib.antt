@@ -1,8 +1,6 @@
 pub mod Acting
 pub mod Applying
 pub mod Delivering
-pub mod Holding
-pub mod Noting
 pub mod Opening
 pub mod Plans
 pub mod Questions

@@ -1,8 +1,8 @@
 -- What a commit is going to append and to keep, and when there is none.
 use Rattle.std.specs.Prelude.{ℕ, ◌≡◌, ◌<◌, ◌+◌, ◌++◌, ◌&&◌, List, [], ◌∷◌, length, Option, Some, None, Bool, not, is_some, nat_lt, filter, reverse, if◌then◌else◌}
-use Rattle.samza_model.specs.declared.messages.Record.{Record}
 use Rattle.samza_model.specs.declared.checkpoints.Checkpoint.{Checkpoint}
 use Rattle.samza_model.specs.declared.events.Event.{Event}
+use Rattle.samza_model.specs.declared.messages.Record.{Record}
 use Rattle.samza_model.specs.Checkpoint.{Spells}
 use Rattle.samza_model.specs.Journals.{belongs}
 use Rattle.samza_model.specs.Marks.{IsMark}

@@ -1,9 +1,9 @@
 -- What callers see of a core.
 use Rattle.std.specs.Prelude.{ℕ, slice_index_or}
+use Rattle.output_log.specs.Outputs.{Sent}
 use Rattle.core_steps.specs.Cores.{CoreValue, next_at}
 use Rattle.core_steps.specs.Held.{Held}
 use Rattle.core_steps.specs.Lanes.{lane_at}
-use Rattle.output_log.specs.Outputs.{Sent}
 use Rattle.task_core.specs.declared.seen.LaneState.{LaneState}
 
 -- the p-th input's first offset, the first that isn't covered, the next one, and the one behind its last

@@ -7,7 +7,7 @@ ghost use Rattle.task_core.specs.Acting.{applied, applied_now, course_of, next_a
 use crate::applied::{Applied, ask_of};
 use crate::cores::Core;
 use crate::faults::ActFault;
-use crate::holdings::Course;
+use core_parts::Course;
 use samza_model::{Act, Job, NoMemory};
 
 impl Core {

@@ -1,7 +1,7 @@
 // The questions of a core's turns.
 ghost use Rattle.std.specs.Prelude.{◌≡◌, ◌↔◌, Some, None, Err, IfOk};
-ghost use Rattle.task_core.specs.Questions.{question_of};
 ghost use Rattle.samza_model.specs.declared.turns.Turn.TheVariants.{Call, Window};
+ghost use Rattle.task_core.specs.Questions.{question_of};
 
 use crate::cores::Core;
 use crate::faults::QuestionFault;

@@ -1,37 +1,31 @@
 // The machine of a task's events.
-ghost use Rattle.std.specs.Prelude.{◌≡◌, ◌≢◌, ◌↔◌, ℕ, ◌+◌, ◌-◌, ◌^◌, ◌<◌, ◌≤◌, ◌∷◌, ◌++◌, [], length, true, false, is_some, Some, None, Err, OnOk, OnErr, IfOk, IfErr, IfSome, slice_set, List, reverse, filter};
-ghost use Rattle.samza_model.specs.declared.turns.Why.{Why as WhyValue};
-ghost use Rattle.samza_model.specs.declared.acts.Answer.{Answer as AnswerValue};
-ghost use Rattle.samza_model.specs.declared.flights.Flight.{Flight};
-ghost use Rattle.samza_model.specs.Events.{flight_of};
+ghost use Rattle.std.specs.Prelude.{◌≡◌, ◌≢◌, ◌↔◌, ◌+◌, ◌-◌, ◌^◌, ◌<◌, ◌++◌, length, true, false, is_some, Some, None, Err, OnOk, OnErr, IfOk, reverse, filter};
+ghost use Rattle.std.specs.Option.{option_copied, option_map};
 ghost use Rattle.samza_model.specs.declared.acts.Act.{Act as ActValue};
 ghost use Rattle.samza_model.specs.declared.events.Event.{Event as EventValue};
-ghost use Rattle.samza_model.specs.Limits.{act_fits};
-ghost use Rattle.samza_model.specs.Lawful.{course, call_event, window_event, failure_of};
-ghost use Rattle.offset_window.specs.Windows.{next_of};
-ghost use Rattle.core_steps.specs.Held.{state_of, IsSized};
-ghost use Rattle.std.specs.Option.{option_copied, option_map};
-ghost use Rattle.callback_manager.specs.Callbacks.{entry_of};
+ghost use Rattle.samza_model.specs.declared.flights.Flight.{Flight};
+ghost use Rattle.samza_model.specs.Events.{flight_of};
 ghost use Rattle.samza_model.specs.Journals.{belongs};
+ghost use Rattle.samza_model.specs.Lawful.{course, failure_of};
+ghost use Rattle.samza_model.specs.Limits.{act_fits};
 ghost use Rattle.samza_model.specs.Requests.{is_asked, due_by};
-ghost use Rattle.task_core.specs.Delivering.{refusal};
-ghost use Rattle.task_core.specs.declared.faults.DeliverFault.{DeliverFault as DeliverFaultValue};
-ghost use Rattle.task_core.specs.Holding.{course_seen};
-ghost use Rattle.task_core.specs.declared.holdings.Course.{Course as CourseValue};
+ghost use Rattle.callback_manager.specs.Callbacks.{entry_of};
+ghost use Rattle.core_steps.specs.Cores.{CoreValue, IsCore, uncovered_now, Commits, IsCleared, after_commit, act_event, next_at, MayBegin, Adds, IsBody, IsCallAct, deliver_event, after_deliver, after_act};
+ghost use Rattle.core_steps.specs.Held.{IsSized};
 ghost use Rattle.core_steps.specs.Lanes.{lane_at};
+ghost use Rattle.core_parts.specs.declared.courses.Course.{Course as CourseValue};
+ghost use Rattle.core_parts.specs.Courses.{course_seen};
+ghost use Rattle.task_core.specs.declared.faults.DeliverFault.{DeliverFault as DeliverFaultValue};
+ghost use Rattle.task_core.specs.Delivering.{refusal};
 ghost use Rattle.task_core.specs.Plans.{IsKept};
-ghost use Rattle.core_steps.specs.Cores.{CoreValue, IsCore, uncovered_now, Commits, IsCleared, after_commit, act_event, next_at, MayBegin, Adds, Keeps, IsBody, IsCallAct, IsWinAct, deliver_event, after_deliver, after_act, after_complete, after_failure, after_window_act, after_window_end, after_window_failure, after_open_window};
 
-use crate::asks::{greater_scope, shutdown_of};
 use crate::faults::DeliverFault;
-use crate::holdings::{Course, Holdings, course_at};
-use crate::journals::{Journal, low_at};
-use crate::parts::{
-    act_noted, answers_of, begin_noted, complete_one, deliver_one, earlier, ended, failure_at,
-    recycle,
-};
 use crate::plans::Kept;
 use callback_manager::{Callbacks, Entry};
+use core_parts::{
+    Course, Holdings, Journal, act_noted, answers_of, begin_noted, complete_one, course_at,
+    deliver_one, earlier, ended, failure_at, greater_scope, low_at, recycle, shutdown_of,
+};
 use kv_store::TrackedTable;
 use offset_window::OffsetWindow;
 use output_log::Outputs;
@@ -74,11 +68,9 @@ impl Model for Core {
 
     ghost coded = { Prim.hlevel (codes, tracked_code) };
 
-    ghost use Rattle.task_core.specs.Holding.{held};
+    ghost view = { λ c. record { setup = c.setup; starts = c.starts.items; ends = c.ends.items; lanes = c.lanes.items; callbacks = c.callbacks; held = c.holdings; failed = c.failed; window = c.window; since = c.journal.since; kept = c.journal.kept; times = c.times; asked = c.asked; last = c.last } };
 
-    ghost view = { λ c. record { setup = c.setup; starts = c.starts.items; ends = c.ends.items; lanes = c.lanes.items; callbacks = c.callbacks; held = held c.holdings; failed = c.failed; window = c.window; since = c.journal.since; kept = c.journal.kept; times = c.times; asked = c.asked; last = c.last } };
-
-    ghost invariant = { λ c. IsCore (record { setup = c.setup; starts = c.starts.items; ends = c.ends.items; lanes = c.lanes.items; callbacks = c.callbacks; held = held c.holdings; failed = c.failed; window = c.window; since = c.journal.since; kept = c.journal.kept; times = c.times; asked = c.asked; last = c.last }) };
+    ghost invariant = { λ c. IsCore (record { setup = c.setup; starts = c.starts.items; ends = c.ends.items; lanes = c.lanes.items; callbacks = c.callbacks; held = c.holdings; failed = c.failed; window = c.window; since = c.journal.since; kept = c.journal.kept; times = c.times; asked = c.asked; last = c.last }) };
 }
 
 impl Core {
@@ -265,18 +257,20 @@ impl Core {
         self.lanes.as_slice()
     }
 
+    /// The stores, in the setup's order.
     pub fn stores(&self) -> &[TrackedTable]
         ensures stores { result.now ≡ self.now.held.stores }
         ensures sized { IsSized self.now.setup self.now.held }
     {
-        self.holdings.stores.as_slice()
+        self.holdings.stores()
     }
 
+    /// The outputs, in the setup's order.
     pub fn outputs(&self) -> &Outputs
         ensures { result.now
             ≡ record { unsent = self.now.held.unsent; cleared = self.now.held.cleared } }
     {
-        &self.holdings.outputs
+        self.holdings.outputs()
     }
 
     /// The next callback's number.
@@ -287,6 +281,7 @@ impl Core {
         self.callbacks.next()
     }
 
+    /// How many callbacks are in flight.
     pub fn in_flight(&self) -> u32
         ensures count { result ≡ length self.now.callbacks.flights }
         ensures core { IsCore self.now }
@@ -294,12 +289,14 @@ impl Core {
         self.callbacks.count()
     }
 
+    /// Whether a turn failed.
     pub fn is_failed(&self) -> bool
         ensures { result ≡ is_some self.now.failed }
     {
         self.failed.is_some()
     }
 
+    /// Whether a window is open.
     pub fn is_windowing(&self) -> bool
         ensures { result ≡ is_some self.now.window }
     {

@@ -3,8 +3,8 @@ ghost use Rattle.std.specs.Prelude.{◌≡◌, ◌<◌, ◌+◌, ◌-◌, ◌^�
 ghost use Rattle.std.specs.List.{AllByRecursion};
 ghost use Rattle.core_steps.specs.Cores.{IsCore};
 ghost use Rattle.core_plans.specs.Plans.{PlansMark, PlansSends, PlansStores};
-ghost use Rattle.task_core.specs.Plans.{commit_refusal, is_busy, IsKept, IsPlan, MarksNow};
 ghost use Rattle.task_core.specs.declared.faults.PlanFault.{PlanFault as PlanFaultValue};
+ghost use Rattle.task_core.specs.Plans.{commit_refusal, is_busy, IsKept, IsPlan, MarksNow};
 
 use crate::cores::Core;
 use crate::faults::PlanFault;

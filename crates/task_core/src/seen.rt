@@ -2,8 +2,8 @@
 ghost use Rattle.std.specs.Prelude.{ℕ, ◌≡◌, ◌↔◌, ◌<◌, ◌≤◌, length, Some, None, IfSome, slice_get};
 ghost use Rattle.std.specs.FinMap as map;
 ghost use Rattle.callback_manager.specs.Callbacks.{numbers};
-ghost use Rattle.core_steps.specs.Held.{tracked_at};
 ghost use Rattle.output_log.specs.Outputs.{sent_count};
+ghost use Rattle.core_steps.specs.Held.{tracked_at};
 ghost use Rattle.task_core.specs.Seen.{lane_state, sent_of};
 
 use crate::cores::Core;
@@ -51,7 +51,7 @@ impl Core {
         requires { store < length self.now.held.stores }
         ensures { result ≡ map.len (tracked_at self.now.held.stores store).content }
     {
-        self.holdings.stores[store as usize].len()
+        self.holdings.stores()[store as usize].len()
     }
 
     /// How many records an output was sent in all, since the core was made.
@@ -59,7 +59,7 @@ impl Core {
         requires { output < length self.now.held.unsent }
         ensures { result ≡ sent_count (sent_of self.now.held) output }
     {
-        self.holdings.outputs.sent(output)
+        self.holdings.outputs().sent(output)
     }
 
     /// The last mark's number, 0 where there is none.

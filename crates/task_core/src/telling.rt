@@ -1,8 +1,8 @@
 // What a core is told, and what it tells of itself.
 ghost use Rattle.std.specs.Prelude.{◌≡◌};
+ghost use Rattle.window_timer.specs.Times.{told, marked_due};
 ghost use Rattle.core_steps.specs.Cores.{Keeps, with_times};
 ghost use Rattle.core_steps.specs.Times.{is_due};
-ghost use Rattle.window_timer.specs.Times.{told, marked_due};
 ghost use Rattle.task_core.specs.Telling.{status_of};
 
 use crate::cores::Core;

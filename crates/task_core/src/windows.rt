@@ -10,11 +10,9 @@ ghost use Rattle.task_core.specs.Acting.{applied, window_course, ActsInWindow};
 ghost use Rattle.task_core.specs.Opening.{MayOpen, IsBusy};
 
 use crate::applied::{Applied, ask_of};
-use crate::asks::{greater_scope, shutdown_of};
 use crate::cores::Core;
 use crate::faults::OpenWindowFault;
-use crate::holdings::Course;
-use crate::parts::open_act_noted;
+use core_parts::{Course, greater_scope, open_act_noted, shutdown_of};
 use samza_model::{Act, Event, Failure, Items, NoMemory, Turn, Why};
 
 impl Core {

@@ -1,5 +1,4 @@
-use Rattle.std.proofs.Common.{◌∙◌, ◌≡◌, ap, subst, sym, is_some, true, Some}
-use Rattle.samza_model.specs.declared.flights.Flight.{Flight}
+use Rattle.std.proofs.Common.{◌∙◌, ◌≡◌, ap, subst, sym, is_some, true}
 use Rattle.samza_model.specs.Events.{flight_of}
 use Rattle.core_steps.specs.Cores.{CoreValue, IsCore, after_failure}
 use Rattle.core_steps.proofs.Closing.{some_of, failure_is, failed_core, failure_adds}

@@ -1,10 +1,9 @@
 use Rattle.std.proofs.Common.{◌∙◌, ap, map, refl}
 use Rattle.samza_model.specs.Journals.{Trimmed}
-use Rattle.window_timer.specs.declared.times.Times.{Times}
 use Rattle.callback_manager.specs.Callbacks.{CallbacksValue}
+use Rattle.window_timer.specs.declared.times.Times.{Times}
 use Rattle.core_steps.specs.Lanes.{begun_lane}
 use Rattle.core_steps.proofs.Begun.{begins_core, begins_sized, begins_standing}
-use Rattle.task_core.specs.Holding.{held}
 use Rattle.task_core.proofs.cores.Core.new.Goals as goal
 
 pub invariant_of-result : goal.invariant_of-result
@@ -12,7 +11,7 @@ invariant_of-result c =
     let b = c.in_ok-lanes.ensures in
     begins_core _ c.requires.runnable c.requires.starts c.requires.ends c.requires.within c.requires.few
     (b.lanes ∙ ap (map (begun_lane c.args.setup.span)) c.as_slice.ensures.value) b.callbacks refl
-    (begins_sized c.args.setup c.args.tables (held c.in_ok-lanes.field-0.holdings) c.requires.tables b.contents b.unsent.outputs)
+    (begins_sized c.args.setup c.args.tables c.in_ok-lanes.field-0.holdings c.requires.tables b.contents b.unsent.outputs)
     (record { commit = ap (λ (t : Times). t.commit.interval) c.new-times.ensures; window = ap (λ (t : Times). t.window.interval) c.new-times.ensures })
 
 pub returns-clause-stands : goal.returns-clause-stands
