@@ -16,7 +16,7 @@ use Rattle.offset_window.specs.Windows.{Window}
 use Rattle.core_plans.specs.Plans.{PlansMark}
 use Rattle.core_steps.specs.Cores.{CoreValue, IsWindow, given}
 use Rattle.core_steps.specs.Lanes.{lane_at}
-use Rattle.core_steps.proofs.Lanes.{low_is}
+use Rattle.core_steps.proofs.Laws.{low_is}
 use Rattle.task_core.specs.declared.faults.PlanFault.{PlanFault}
 use Rattle.task_core.specs.declared.faults.PlanFault.TheVariants.{Failed, Windowing, Busy}
 use Rattle.task_core.specs.declared.plans.Plan.{Plan}
