@@ -62,7 +62,7 @@ fn hold(alloc: Global, tables: Items<Table>, outputs: u32) -> Result<Holdings, N
 }
 
 /// How many outputs a setup has.
-#[tactic(auto, using(core_steps::proofs::Setups::few_outputs))]
+#[tactic(auto, using(core_steps::proofs::Laws::few_outputs))]
 fn output_count(setup: &Setup) -> u32
     requires { IsRunnable setup.now }
     ensures { result ≡ length setup.now.outputs }

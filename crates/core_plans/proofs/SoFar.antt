@@ -11,9 +11,7 @@ use Rattle.samza_model.specs.Content.{sent_at}
 use Rattle.samza_model.specs.Restored.{mark_names, marked_place, setup_names, setup_place}
 use Rattle.kv_store.specs.Tracked.{Tracked}
 use Rattle.log_frame.specs.Frame.{FrameView}
-use Rattle.offset_window.specs.Windows.{Window}
 use Rattle.core_steps.specs.Held.{tracked_at}
-use Rattle.core_steps.specs.Lanes.{lane_at}
 use Rattle.core_plans.specs.Plans.{batch_at, mark_at, next_of_mark, LogsSends, PlansStore}
 
 -- the frames of the first n outputs are made
@@ -29,10 +27,10 @@ pub record StoresSoFar (setups : List StoreSetup) (lens : List ℕ) (stores : Li
   pub each : (i : ℕ) → i < n → PlansStore (batch_at setups i) (tracked_at stores i) (get_or lens i 0) (get_or frames i []) (mark_at marks i)
 
 -- the marks of the first n inputs are made
-pub record InputsSoFar (inputs : List InputSetup) (lanes : List Window) (n : ℕ) (marks : List InputMark) : Type 0 where
+pub record InputsSoFar (inputs : List InputSetup) (nexts : List ℕ) (n : ℕ) (marks : List InputMark) : Type 0 where
   pub marks_are : length marks ≡ n
   pub places_are : map marked_place marks ≡ map setup_place (take n inputs)
-  pub each : (p : ℕ) → p < n → next_of_mark marks p ≡ (lane_at lanes p).low
+  pub each : (p : ℕ) → p < n → next_of_mark marks p ≡ get_or nexts p 0
 
 abbrev pub no_store : StoreSetup
 no_store = record { name = []; cache = 1; batch = 1 }

@@ -14,9 +14,7 @@ use Rattle.samza_model.specs.Restored.{IsNamed, mark_names, next_at, setup_names
 use Rattle.kv_store.specs.Tracked.{Tracked, AgreesOnClean, unlogged_records}
 use Rattle.log_frame.specs.Cuts.{IsCut}
 use Rattle.log_frame.specs.Frame.{FrameView, IsFrame, AreFrames}
-use Rattle.offset_window.specs.Windows.{Window}
 use Rattle.core_steps.specs.Held.{tracked_at}
-use Rattle.core_steps.specs.Lanes.{lane_at}
 
 -- how many records a frame of the i-th store's changelog has at most
 abbrev pub batch_at : List StoreSetup → ℕ → ℕ
@@ -60,9 +58,9 @@ pub record PlansSends (unsent : List (List Record)) (frames : List (List FrameVi
   pub frames_are : length frames ≡ length unsent
   pub each : (j : ℕ) → j < length unsent → LogsSends (sent_at unsent j) (slice_index_or frames j [])
 
--- a checkpoint with the setup's names and this number, which covers of each input what is below the window's low, and its frame
-pub record PlansMark (s : Setup) (lanes : List Window) (id : ℕ) (frame : FrameView) (mark : Checkpoint) : Type 0 where
+-- a checkpoint with the setup's names and this number, which covers of each input what is below its next offset, and its frame
+pub record PlansMark (s : Setup) (nexts : List ℕ) (id : ℕ) (frame : FrameView) (mark : Checkpoint) : Type 0 where
   pub named : IsNamed s mark
   pub id_is : mark.id ≡ id
-  pub next_is : (p : ℕ) → p < length lanes → next_at (Some mark) p ≡ Some (lane_at lanes p).low
+  pub next_is : (p : ℕ) → p < length nexts → next_at (Some mark) p ≡ Some (slice_index_or nexts p 0)
   pub spelled : (r : Record) × Spells mark r × IsFrame frame (r ∷ [])

@@ -1,16 +1,14 @@
 // The checkpoint that a commit makes.
-ghost use Rattle.std.specs.Prelude.{◌≡◌, ◌<◌, ◌∷◌, [], ℕ, length, map, Some, IfOk};
+ghost use Rattle.std.specs.Prelude.{◌≡◌, ◌<◌, ◌∷◌, [], ℕ, length, map, slice_index_or, Some, IfOk};
 ghost use Rattle.samza_model.specs.declared.messages.Record.{Record};
 ghost use Rattle.samza_model.specs.Checkpoint.{Spells, IsWellFormed};
 ghost use Rattle.samza_model.specs.Names.{topic_of};
 ghost use Rattle.samza_model.specs.Restored.{IsNamed, mark_names, marked_place, next_at, setup_names, setup_place};
 ghost use Rattle.log_frame.specs.Frame.{IsFrame};
-ghost use Rattle.core_steps.specs.Lanes.{lane_at};
 ghost use Rattle.core_plans.specs.Plans.{next_of_mark};
 
 use checkpoint_log::encode_checkpoint;
 use log_frame::{Frame, encode};
-use offset_window::OffsetWindow;
 use samza_model::{
     Checkpoint, InputMark, InputSetup, Items, NoMemory, Plain, Setup, StoreMark, put, topic_name,
 };
@@ -31,43 +29,43 @@ fn mark_input(alloc: Global, input: &InputSetup, next: u64) -> Result<InputMark,
     })
 }
 
-/// What a checkpoint says of each input: all below the low of its window is covered.
+/// What a checkpoint says of each input: all below its next offset is covered.
 fn inputs_of(
     alloc: Global,
     inputs: &[InputSetup],
-    lanes: &[OffsetWindow],
+    nexts: &[u64],
 ) -> Result<Vec<InputMark>, NoMemory>
-    requires { length lanes.now ≡ length inputs.now }
+    requires { length nexts.now ≡ length inputs.now }
     ensures named { IfOk result (λ marks. map marked_place marks.items ≡ map setup_place
         inputs.now) }
-    ensures next { IfOk result (λ marks. (p : ℕ) → p < length lanes.now
-        → next_of_mark marks.items p ≡ (lane_at lanes.now p).low) }
+    ensures next { IfOk result (λ marks. (p : ℕ) → p < length nexts.now
+        → next_of_mark marks.items p ≡ slice_index_or nexts.now p 0) }
 {
     let mut marks = Vec::new(alloc);
     for i in 0..inputs.len() {
-        let mark = mark_input(alloc, &inputs[i], lanes[i].low())?;
+        let mark = mark_input(alloc, &inputs[i], nexts[i])?;
         put(&mut marks, mark)?;
     }
     Ok(marks)
 }
 
-/// A checkpoint of the setup that covers what is below the windows' lows.
+/// A checkpoint of the setup that covers of each input what is below its next offset.
 pub(crate) fn make_mark(
     alloc: Global,
     setup: &Setup,
-    lanes: &[OffsetWindow],
+    nexts: &[u64],
     id: u64,
     stores: Vec<StoreMark>,
 ) -> Result<Checkpoint, NoMemory>
-    requires lanes { length lanes.now ≡ length setup.now.inputs }
+    requires nexts { length nexts.now ≡ length setup.now.inputs }
     requires names { mark_names stores.items ≡ setup_names setup.now.stores }
     ensures named { IfOk result (λ k. IsNamed setup.now k) }
     ensures id { IfOk result (λ k. k.id ≡ id) }
-    ensures next { IfOk result (λ k. (p : ℕ) → p < length lanes.now
-        → next_at (Some k) p ≡ Some (lane_at lanes.now p).low) }
+    ensures next { IfOk result (λ k. (p : ℕ) → p < length nexts.now
+        → next_at (Some k) p ≡ Some (slice_index_or nexts.now p 0)) }
     ensures stores { IfOk result (λ k. k.stores ≡ stores.items) }
 {
-    let inputs = inputs_of(alloc, setup.inputs.as_slice(), lanes)?;
+    let inputs = inputs_of(alloc, setup.inputs.as_slice(), nexts)?;
     let outputs = setup.outputs.copy(alloc)?;
     Ok(Checkpoint {
         id,

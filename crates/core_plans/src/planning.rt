@@ -1,7 +1,7 @@
 // A commit, planned in memory.
 ghost use Rattle.std.specs.Prelude.{◌≡◌, ◌<◌, ◌^◌, length, IfOk};
 ghost use Rattle.std.specs.List.{AllByRecursion};
-ghost use Rattle.core_steps.specs.Setups.{IsRunnable};
+ghost use Rattle.core_steps.specs.Setups.{IsCommittable};
 ghost use Rattle.core_plans.specs.Plans.{PlansMark, PlansSends, PlansStores};
 
 use crate::changes::plan_stores;
@@ -9,7 +9,6 @@ use crate::marks::{make_mark, mark_frame};
 use crate::sends::plan_sends;
 use kv_store::TrackedTable;
 use log_frame::Frame;
-use offset_window::OffsetWindow;
 use output_log::Outputs;
 use samza_model::{Checkpoint, Items, NoMemory, Setup};
 use std::alloc::Global;
@@ -25,30 +24,30 @@ pub struct Frames {
     pub checkpoint: Frame,
 }
 
-/// What a commit appends, and the checkpoint that it makes, whose number is `id`. Each changelog has as many records
-/// as `lens` says. The one error is want of memory.
+/// What a commit appends, and the checkpoint that it makes, whose number is `id`. It covers of each input what is below
+/// its next offset, by `nexts`. Each changelog has as many records as `lens` says. The one error is want of memory.
 pub fn plan(
     alloc: Global,
     setup: &Setup,
-    lanes: &[OffsetWindow],
+    nexts: &[u64],
     stores: &[TrackedTable],
     outputs: &Outputs,
     lens: &[u64],
     id: u64,
 ) -> Result<(Frames, Checkpoint), NoMemory>
-    requires runnable { IsRunnable setup.now }
-    requires lanes { length lanes.now ≡ length setup.now.inputs }
+    requires committable { IsCommittable setup.now }
+    requires nexts { length nexts.now ≡ length setup.now.inputs }
     requires stores { length stores.now ≡ length setup.now.stores }
     requires lens { length lens.now ≡ length setup.now.stores }
     requires below { AllByRecursion (λ n. n < 2 ^ 63) lens.now }
     ensures stores { IfOk result (λ r. PlansStores setup.now lens.now stores.now r.0.stores
         r.1.stores) }
     ensures sends { IfOk result (λ r. PlansSends outputs.now.unsent r.0.outputs) }
-    ensures mark { IfOk result (λ r. PlansMark setup.now lanes.now id r.0.checkpoint r.1) }
+    ensures mark { IfOk result (λ r. PlansMark setup.now nexts.now id r.0.checkpoint r.1) }
 {
     let sends = plan_sends(alloc, outputs)?;
     let (changes, marks) = plan_stores(alloc, setup, stores, lens)?;
-    let mark = make_mark(alloc, setup, lanes, id, marks)?;
+    let mark = make_mark(alloc, setup, nexts, id, marks)?;
     let checkpoint = mark_frame(alloc, &mark)?;
     let frames = Frames {
         outputs: Items::from_vec(sends),

@@ -11,7 +11,7 @@ use Rattle.samza_model.specs.Checkpoint.{IsWellFormed}
 use Rattle.samza_model.specs.Limits.{store_limit, output_limit}
 use Rattle.samza_model.specs.Names.{topic_of}
 use Rattle.samza_model.specs.Restored.{mark_names, marked_place, setup_names, setup_place}
-use Rattle.core_steps.specs.Setups.{IsRunnable}
+use Rattle.core_steps.specs.Setups.{IsCommittable}
 
 -- a checkpoint with the setup's names, that covers and counts nothing
 abbrev input_mark : InputSetup → InputMark
@@ -31,11 +31,11 @@ stores_named : (stores : List StoreSetup) → mark_names (map store_mark stores)
 stores_named [] = refl
 stores_named (t ∷ ts) = ap (λ rest. t.name ∷ rest) (stores_named ts)
 
-formed : (s : Setup) → IsRunnable s → IsWellFormed (named_mark s)
-formed s runnable = runnable.spelled (named_mark s) (record { inputs = inputs_named s.inputs; stores = stores_named s.stores; outputs = refl })
+formed : (s : Setup) → IsCommittable s → IsWellFormed (named_mark s)
+formed s committable = committable.spelled (named_mark s) (record { inputs = inputs_named s.inputs; stores = stores_named s.stores; outputs = refl })
 
-pub few_stores : (s : Setup) → IsRunnable s → length s.stores ≤ store_limit
-few_stores s runnable = omega (arith, (formed s runnable).few_stores, length-map s.stores store_mark)
+pub few_stores : (s : Setup) → IsCommittable s → length s.stores ≤ store_limit
+few_stores s committable = omega (arith, (formed s committable).few_stores, length-map s.stores store_mark)
 
-pub few_outputs : (s : Setup) → IsRunnable s → length s.outputs ≤ output_limit
-few_outputs s runnable = (formed s runnable).few_outputs
+pub few_outputs : (s : Setup) → IsCommittable s → length s.outputs ≤ output_limit
+few_outputs s committable = (formed s committable).few_outputs

@@ -12,12 +12,13 @@ ghost use Rattle.event_unit.specs.Committing.{commit_refusal};
 ghost use Rattle.unit_steps.specs.Units.{Marks, Begins};
 
 use crate::units::TaskUnit;
+use core_plans::Frames;
 use disk_model::{Disk, Shelf};
 use packed_events::Packed;
 use samza_model::{Checkpoint, Job, KeptMark};
 use std::alloc::Global;
 use task_core::Core;
-use unit_logs::{CommitFault, Logs, Plan, Reach, plan_commit};
+use unit_logs::{CommitFault, Logs, Reach, plan_commit};
 
 /// A checkpoint that was made, by its number.
 #[derive(Clone, Copy, Debug, PartialEq, Eq)]

@@ -11,7 +11,7 @@ use Rattle.topic_log.specs.Growth.{PassesBy}
 use Rattle.unit_logs.specs.Commits.{IsCommitted}
 use Rattle.unit_logs.specs.Growth.{PassesLimit}
 use Rattle.unit_logs.specs.Unlogged.{unlogged_at}
-use Rattle.unit_logs.specs.Planned.{batch_at}
+use Rattle.core_plans.specs.Plans.{batch_at}
 use Rattle.task_unit.specs.Units.{UnitValue, IsProcessed, NothingUnlogged}
 use Rattle.samza_container.specs.Runs.{AreChanges, Does, Advances, FillsFileFrom, FinishesFrom}
 use Rattle.samza_container.proofs.Advancing.{message_body, changes_none, changes_more, does_none, does_more}

@@ -127,8 +127,7 @@ few_inputs c none =
 pub set_up : (c : JobConfig) → IsBounded c → first_not_built c ≡ None → IsSetUp (setup_of c)
 set_up c bounded built = record {
   one_input = omega (arith, few_inputs c built, bounded.inputs.some, length-map c.inputs input_name, length-map c.inputs input_setup);
-  spelled = named_well c bounded;
-  batches = batched c.stores bounded.stores.each;
+  committable = record { spelled = named_well c bounded; batches = batched c.stores bounded.stores.each };
 }
 
 pub if_set_up : {E : Type 0} (made : Result Setup E) (c : JobConfig) → IsBounded c → first_not_built c ≡ None → IfOk made (λ s. s ≡ setup_of c) → IfOk made IsSetUp

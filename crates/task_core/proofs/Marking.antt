@@ -1,19 +1,34 @@
 -- The checkpoint of a plan is a mark of the events by which the core stands.
-use Rattle.std.proofs.Common.{ℕ, ◌≡◌, ◌∙◌, ◌+◌, ◌&&◌, List, [], ◌∷◌, length, Option, Some, None, Bool, true, false, not, is_some, if◌then◌else◌, refl, sym, ap, subst, arith, rules, true≢false}
+use Rattle.std.proofs.Common.{ℕ, ◌≡◌, ◌∙◌, ◌+◌, ◌<◌, ◌&&◌, List, [], ◌∷◌, length, Option, Some, None, Bool, true, false, not, is_some, if◌then◌else◌, map, refl, sym, ap, subst, arith, rules, true≢false}
+use Rattle.std.proofs.lemmas.List.{get_or-map, length-map}
 use Rattle.std.proofs.lemmas.Option.{none-some}
 use Rattle.std.specs.Prelude.{nat_lt}
 use Rattle.samza_model.specs.declared.acts.Answer.{Answer}
+use Rattle.samza_model.specs.declared.checkpoints.Checkpoint.{Checkpoint}
 use Rattle.samza_model.specs.declared.flights.Flight.{Flight}
+use Rattle.samza_model.specs.declared.setups.Setup.{Setup}
 use Rattle.samza_model.specs.declared.turns.Failure.{Failure}
 use Rattle.samza_model.specs.Events.{deliveries_of, is_covered}
 use Rattle.samza_model.specs.Lawful.{start_at}
+use Rattle.samza_model.specs.Restored.{next_at}
+use Rattle.log_frame.specs.Frame.{FrameView}
+use Rattle.offset_window.specs.Windows.{Window}
+use Rattle.core_plans.specs.Plans.{PlansMark}
 use Rattle.core_steps.specs.Cores.{CoreValue, IsWindow, given}
 use Rattle.core_steps.specs.Lanes.{lane_at}
-use Rattle.core_steps.proofs.Lanes.{low_is}
+use Rattle.core_steps.proofs.Laws.{low_is}
 use Rattle.task_core.specs.declared.faults.PlanFault.{PlanFault}
 use Rattle.task_core.specs.declared.faults.PlanFault.TheVariants.{Failed, Windowing, Busy}
 use Rattle.task_core.specs.declared.plans.Plan.{Plan}
 use Rattle.task_core.specs.Plans.{IsPlan, MarksNow, commit_refusal, is_busy}
+
+-- a mark made of the windows' lows has them as its next offsets
+pub next_is_low : (s : Setup) (lanes : List Window) (id : ℕ) (frame : FrameView) (mark : Checkpoint) → PlansMark s (map (λ w. w.low) lanes) id frame mark
+    → (p : ℕ) → p < length lanes → next_at (Some mark) p ≡ Some (lane_at lanes p).low
+next_is_low s lanes id frame mark plans p lt =
+    let low : Window → ℕ = λ w. w.low in
+    plans.next_is p (subst (λ n. p < n) (sym (length-map lanes low)) lt)
+    ∙ ap Some (get_or-map low lanes p (record { low = 0; done = []; span = 0 }) 0 lt)
 
 -- a core that may commit
 record MayCommit (u : CoreValue) : Type 0 where

@@ -1,5 +1,5 @@
 // The plan of a core's commit.
-ghost use Rattle.std.specs.Prelude.{◌≡◌, ◌<◌, ◌+◌, ◌-◌, ◌^◌, length, Some, None, Err, IfOk, IfErr};
+ghost use Rattle.std.specs.Prelude.{◌≡◌, ◌<◌, ◌+◌, ◌-◌, ◌^◌, length, map, Some, None, Err, IfOk, IfErr};
 ghost use Rattle.std.specs.List.{AllByRecursion};
 ghost use Rattle.core_steps.specs.Cores.{IsCore};
 ghost use Rattle.core_plans.specs.Plans.{PlansMark, PlansSends, PlansStores};
@@ -10,7 +10,20 @@ use crate::cores::Core;
 use crate::faults::PlanFault;
 use crate::plans::{Kept, Plan};
 use core_plans::Frames;
-use samza_model::{Checkpoint, Items, NoMemory};
+use offset_window::OffsetWindow;
+use samza_model::{Checkpoint, Items, NoMemory, put};
+use std::alloc::Global;
+
+/// The first offset of each window that isn't complete.
+fn lows_of(alloc: Global, lanes: &[OffsetWindow]) -> Result<Vec<u64>, NoMemory>
+    ensures { IfOk result (λ v. v.items ≡ map (λ w. w.low) lanes.now) }
+{
+    let mut lows = Vec::new(alloc);
+    for i in 0..lanes.len() {
+        put(&mut lows, lanes[i].low())?;
+    }
+    Ok(lows)
+}
 
 impl Core {
     /// Whether callbacks are in flight, and the setup allows no commit then.
@@ -37,6 +50,13 @@ impl Core {
         }
     }
 
+    /// The first offset of each input that isn't complete.
+    fn lows(&self) -> Result<Vec<u64>, NoMemory>
+        ensures { IfOk result (λ v. v.items ≡ map (λ w. w.low) self.now.lanes) }
+    {
+        lows_of(self.alloc(), self.lanes())
+    }
+
     /// What a commit now appends, and the checkpoint that it makes.
     fn plan_frames(&self, lens: &[u64]) -> Result<(Frames, Checkpoint), NoMemory>
         requires lens { length lens.now ≡ length self.now.setup.stores }
@@ -45,15 +65,16 @@ impl Core {
         ensures stores { IfOk result (λ r. PlansStores self.now.setup lens.now self.now.held.stores
             r.0.stores r.1.stores) }
         ensures sends { IfOk result (λ r. PlansSends self.now.held.unsent r.0.outputs) }
-        ensures mark { IfOk result (λ r. PlansMark self.now.setup self.now.lanes (self.now.last + 1)
-            r.0.checkpoint r.1) }
+        ensures mark { IfOk result (λ r. PlansMark self.now.setup (map (λ w. w.low) self.now.lanes)
+            (self.now.last + 1) r.0.checkpoint r.1) }
         ensures core { IsCore self.now }
     {
         let last = self.last();
+        let lows = self.lows()?;
         core_plans::plan(
             self.alloc(),
             self.setup(),
-            self.lanes(),
+            lows.as_slice(),
             self.stores(),
             self.outputs(),
             lens,

@@ -22,7 +22,8 @@ use Rattle.unit_logs.specs.Standing.{OnDisk}
 use Rattle.task_unit.specs.Units.{LogsStay, AreWhole}
 use Rattle.topic_log.proofs.Laws.{frames_unique, joined-append, log_unique}
 use Rattle.restore_trim.proofs.Shared.{has_frames}
-use Rattle.unit_logs.proofs.Laws.{open_has, content_at}
+use Rattle.core_steps.proofs.Laws.{content_at}
+use Rattle.unit_logs.proofs.Laws.{open_has}
 
 -- what was restored, told with equal parts
 pub restored_as : (s : Setup) (before reads : Image) (images : Image → Type 0) (mark mark' : Option Checkpoint) (marks : Log) (changelogs outputs : List Log) (logs : Logs) (stores stores' : List Content)

@@ -12,7 +12,7 @@ use Rattle.kv_store.specs.Tracked.{Tracked, Keys, no_keys, record_now, unlogged_
 use Rattle.task_unit.specs.Held.{AreClean}
 use Rattle.core_steps.specs.Held.{tracked_at, contents_of}
 use Rattle.unit_logs.specs.Unlogged.{unlogged_of, unlogged_at}
-use Rattle.unit_logs.proofs.Laws.{content_at}
+use Rattle.core_steps.proofs.Laws.{content_at}
 
 -- what holds of each item below i holds of each below i + 1 where it holds of the i-th, which is set
 pub settled_more : {A : Type 0} (P : A → Type 0) (xs : List A) (i : ℕ) (x d : A) → i < length xs → P x

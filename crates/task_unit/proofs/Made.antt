@@ -12,7 +12,7 @@ use Rattle.samza_model.specs.Content.{Content, State, changed, answer_of, found,
 use Rattle.kv_store.specs.Tracked.{Tracked, with_change, AgreesOnClean, no_keys}
 use Rattle.kv_store.proofs.Laws.{AgreesOnClean-more}
 use Rattle.core_steps.specs.Held.{Held, tracked_at, contents_of, state_of}
-use Rattle.unit_logs.proofs.Laws.{content_at}
+use Rattle.core_steps.proofs.Laws.{content_at}
 use Rattle.task_unit.specs.Acting.{with_stored, held_with_sent, KeepsClean}
 
 pub always : {T E P : Type 0} (r : Result T E) → P → OnOk r P

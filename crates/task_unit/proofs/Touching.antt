@@ -23,7 +23,7 @@ use Rattle.core_steps.specs.Held.{Held, tracked_at, contents_of}
 use Rattle.unit_logs.specs.Unlogged.{unlogged_of, unlogged_at}
 use Rattle.task_unit.specs.Touched.{acts_on, with_act, touched, keys_in}
 use Rattle.task_unit.proofs.Made.{IsAside}
-use Rattle.unit_logs.proofs.Laws.{content_at}
+use Rattle.core_steps.proofs.Laws.{content_at}
 
 -- the acts from one on, by how the turn ends there
 acts_behind : Meaning → Setup → Envelope → ℕ → State → List Answer → Act → Option End → List Act

@@ -8,10 +8,11 @@ ghost use Rattle.unit_logs.specs.Written.{LacksRoomFor, Reaches};
 ghost use Rattle.task_unit.specs.Acting.{held};
 
 use crate::acting::Holdings;
+use core_plans::Frames;
 use kv_store::TrackedTable;
 use samza_model::{Checkpoint, Setup};
 use std::alloc::Global;
-use unit_logs::{CommitFault, Logs, Plan, Reach, plan_commit};
+use unit_logs::{CommitFault, Logs, Reach, plan_commit};
 
 /// What a commit appends of what is held, how far the logs reach behind it, and the checkpoint that it makes. `Limit` comes
 /// where one of the files would pass 2^40 bytes.
@@ -21,7 +22,7 @@ pub(crate) fn plan_held(
     logs: &Logs,
     holdings: &Holdings,
     next: u64,
-) -> Result<(Plan, Reach, Checkpoint), CommitFault>
+) -> Result<(Frames, Reach, Checkpoint), CommitFault>
     requires set_up { IsSetUp setup.now }
     requires sized { IsSized setup.now (held holdings.now) }
     requires changelogs { length logs.now.changelogs.items ≡ length setup.now.stores }

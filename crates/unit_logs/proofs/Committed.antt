@@ -13,7 +13,7 @@ use Rattle.kv_store.proofs.Laws.{replayed-append}
 use Rattle.topic_log.specs.declared.logs.Log.{Log}
 use Rattle.topic_log.proofs.Laws.{joined-append}
 use Rattle.unit_logs.specs.declared.writing.Logs.{Logs}
-use Rattle.unit_logs.specs.declared.writing.Plan.{Plan}
+use Rattle.core_plans.specs.declared.planning.Frames.{Frames}
 use Rattle.core_steps.specs.Held.{IsSized, Held, tracked_at, contents_of}
 use Rattle.unit_logs.specs.Appending.{AreOpen}
 use Rattle.unit_logs.specs.Planned.{PlansCommit}
@@ -21,7 +21,9 @@ use Rattle.restore_trim.specs.Standing.{IsOpenAt}
 use Rattle.restore_trim.proofs.Shared.{open_has as open_frames}
 use Rattle.unit_logs.specs.Standing.{MarkStands, OnDisk}
 use Rattle.unit_logs.specs.Written.{AreWritten, StandOpen}
-use Rattle.unit_logs.proofs.Holding.{content_at}
+use Rattle.core_plans.specs.Plans.{batch_at}
+use Rattle.core_steps.proofs.Laws.{content_at}
+use Rattle.unit_logs.proofs.Holding.{counts_behind}
 
 -- the records of a log that is open are those of its file
 pub open_has : (reads : Image) (images : Image → Type 0) (file : ℕ) (log : Log) (frames : List (List Record)) → IsOpenAt reads images file log frames → HasLog (reads file) (joined frames)
@@ -38,7 +40,7 @@ pub record StoreMade (reads : Image) (images : Image → Type 0) (file count : �
   pub count_is : count ≡ length (joined frames)
   pub content_is : foldrec (joined frames) ≡ content
 
-module _ (s : Setup) (reads reads' : Image) (images images' : Image → Type 0) (logs logs' : Logs) (plan : Plan) (mark : Option Checkpoint) (next : ℕ) (made : Checkpoint) (h : Held)
+module _ (s : Setup) (reads reads' : Image) (images images' : Image → Type 0) (logs logs' : Logs) (plan : Frames) (mark : Option Checkpoint) (next : ℕ) (made : Checkpoint) (h : Held)
     (on : OnDisk reads images s logs mark h)
     (follows : AreWritten reads images reads' images' logs logs' plan)
     (plans : PlansCommit s logs h next plan made)
@@ -50,13 +52,13 @@ module _ (s : Setup) (reads reads' : Image) (images images' : Image → Type 0) 
   store_made i d lt =
       let old = on.stores i d lt in
       let here : i < length logs.changelogs.items = subst (λ n. i < n) (sym changelogs_are) lt in
-      let p = plans.stores.each i d (subst (λ n. i < n) (sym sized.stores) lt) in
+      let p = plans.stores.each i (subst (λ n. i < n) (sym sized.stores) lt) in
       let lists = p.logs.lists in
       let both : joined (old.frames ++ lists) ≡ joined old.frames ++ joined lists = joined-append old.frames lists in
       record {
         frames = old.frames ++ lists;
         is_open = follows.changelogs i d old.frames lists here old.is_open p.logs.are;
-        count_is = p.count_is old.frames lists old.is_open.is_open.extent p.logs.are;
+        count_is = counts_behind logs.changelogs.items i d (batch_at s.stores i) (tracked_at h.stores i) (get_or plan.stores i []) (count_at (Some made) i) old.frames here old.is_open.is_open.extent p;
         content_is = ap foldrec both ∙ replayed-append nothing_stored (joined old.frames) (joined lists) ∙ p.logs.replays (foldrec (joined old.frames)) old.agrees;
       }
 

@@ -9,7 +9,7 @@ use Rattle.disk_model.specs.Images.{LeavesOnly}
 use Rattle.disk_model.proofs.Laws.{started, weaker}
 use Rattle.restore_trim.specs.Standing.{OthersStay}
 use Rattle.unit_logs.specs.declared.writing.Logs.{Logs}
-use Rattle.unit_logs.specs.declared.writing.Plan.{Plan}
+use Rattle.core_plans.specs.declared.planning.Frames.{Frames}
 use Rattle.unit_logs.specs.Commits.{IsCommitted, LeavesMade, CommitLeaves}
 use Rattle.unit_logs.specs.Crashes.{TaskFrames, PlanRecords, StandWith, IsPlanOf, WriteLeaves}
 use Rattle.core_steps.specs.Held.{Held, IsSized, state_of}
@@ -32,7 +32,7 @@ module _ {D : Type 0} (reads : D → Image) (number : D → ℕ) (images : D →
       (λ c now. (c, now, ((λ f other. refl), inl (unwritten_restores s (reads old) (images old) logs mark h on outputs_are contents before c now))))
 
 module _ {D : Type 0} (reads : D → Image) (number : D → ℕ) (images : D → Image → Type 0) (since : D → ℕ → Image → Type 0) (old : D)
-    (s : Setup) (logs : Logs) (plan : Plan) (mark : Option Checkpoint) (next : ℕ) (made : Checkpoint) (h : Held)
+    (s : Setup) (logs : Logs) (plan : Frames) (mark : Option Checkpoint) (next : ℕ) (made : Checkpoint) (h : Held)
     (on : OnDisk (reads old) (images old) s logs mark h)
     (plans : PlansCommit s logs h next plan made)
     (changelogs_are : length logs.changelogs.items ≡ length s.stores)

@@ -10,6 +10,5 @@ pub mod Laws
 mod MarkSizes
 mod Moments
 mod Others
-mod PlansSoFar
 mod SetUps
 mod Survived

@@ -18,18 +18,20 @@ use Rattle.log_frame.specs.Frame.{IsFrame, AreFrames}
 use Rattle.topic_log.specs.declared.logs.Log.{Log}
 use Rattle.topic_log.proofs.Laws.{joined-append, frames_unique, log_unique}
 use Rattle.unit_logs.specs.declared.writing.Logs.{Logs}
-use Rattle.unit_logs.specs.declared.writing.Plan.{Plan}
+use Rattle.core_plans.specs.declared.planning.Frames.{Frames}
 use Rattle.core_steps.specs.Held.{IsSized, Held, tracked_at, state_of}
 use Rattle.unit_logs.specs.Unlogged.{unlogged_of, unlogged_at}
 use Rattle.unit_logs.specs.Crashes.{TaskFrames, PlanRecords, StandWith, IsPlanOf, HasPart, HasAll, WriteLeaves}
-use Rattle.unit_logs.specs.Planned.{PlansCommit, batch_at}
+use Rattle.unit_logs.specs.Planned.{PlansCommit}
+use Rattle.core_plans.specs.Plans.{batch_at}
 use Rattle.restore_trim.specs.Standing.{IsOpenAt}
 use Rattle.unit_logs.specs.Standing.{OnDisk}
 use Rattle.unit_logs.specs.Commits.{IsFollowed, IsCommitted, IsUncommitted, LeavesMade, CommitLeaves}
 use Rattle.unit_logs.specs.Written.{AreWritten}
 use Rattle.restore_trim.proofs.Shared.{open_has as open_frames, log_of, has_frames}
 use Rattle.unit_logs.proofs.Committed.{id_was}
-use Rattle.unit_logs.proofs.Holding.{content_at, unlogged_is}
+use Rattle.core_steps.proofs.Laws.{content_at}
+use Rattle.unit_logs.proofs.Holding.{counts_behind, unlogged_is}
 
 pick : {X : Type 0} (P : ℕ → X → Type 0) (d : X) (i n : ℕ) → (i < n → (x : X) × P i x) → (i < n) ⊎ (n ≤ i) → X
 pick P d i n h (inl lt) = (h lt).0
@@ -97,11 +99,11 @@ pub leaves_some : (s : Setup) (before old new : Image) (mark : Option Checkpoint
     → LeavesMade s before old new mark contents next state unlogged made → CommitLeaves s before old new mark contents next state unlogged
 leaves_some s before old new mark contents next state unlogged made left = (left.0, elim left.1 [ inl kept ↦ inl kept | inr is ↦ inr (made, is) ])
 
-module _ (s : Setup) (reads : Image) (images : Image → Type 0) (logs : Logs) (plan : Plan) (mark : Option Checkpoint) (next : ℕ) (made : Checkpoint) (h : Held) where
+module _ (s : Setup) (reads : Image) (images : Image → Type 0) (logs : Logs) (plan : Frames) (mark : Option Checkpoint) (next : ℕ) (made : Checkpoint) (h : Held) where
   -- a changelog's frames and those of the plan make the store's content, and the next checkpoint counts all of them
   pub record StoreGrows (i : ℕ) (had more : List (List Record)) : Type 0 where
     pub is_open : (d : Log) → IsOpenAt reads images (changelog_file i) (get_or logs.changelogs.items i d) had
-    pub are : AreFrames (get_or plan.changes.items i []) more
+    pub are : AreFrames (get_or plan.stores i []) more
     pub count_is : count_at (Some made) i ≡ length (joined (had ++ more))
     pub content_is : foldrec (joined (had ++ more)) ≡ (tracked_at h.stores i).content
     pub cut : IsCut (batch_at s.stores i) (unlogged_at (unlogged_of h.stores) i) more
@@ -109,14 +111,14 @@ module _ (s : Setup) (reads : Image) (images : Image → Type 0) (logs : Logs) (
   -- an output's frames, and those of the plan, which are what was sent
   pub record OutputGrows (j : ℕ) (had more : List (List Record)) : Type 0 where
     pub is_open : (d : Log) → IsOpenAt reads images (output_file j) (get_or logs.outputs.items j d) had
-    pub are : AreFrames (get_or plan.sends.items j []) more
+    pub are : AreFrames (get_or plan.outputs j []) more
     pub cut : IsCut frame_batch (sent_at h.unsent j) more
 
   -- the frames that the logs have, and the records that the plan adds
   pub record TaskGrows (had : TaskFrames) (more : PlanRecords) : Type 0 where
     pub mark_open : IsOpenAt reads images checkpoint_file logs.marks had.marks
     pub mark_is : HasMark s had.marks mark
-    pub mark_frame : IsFrame plan.frame (more.mark ∷ [])
+    pub mark_frame : IsFrame plan.checkpoint (more.mark ∷ [])
     pub mark_spells : Spells made more.mark
     pub made_is : EndsWith (had.marks ++ (more.mark ∷ []) ∷ []) made
     pub id_is : made.id ≡ id_of mark + 1
@@ -133,13 +135,13 @@ module _ (s : Setup) (reads : Image) (images : Image → Type 0) (logs : Logs) (
         let d = logs.marks in
         let old = on.stores i d lt in
         let here : i < length logs.changelogs.items = subst (λ n. i < n) (sym changelogs_are) lt in
-        let p = plans.stores.each i d (subst (λ n. i < n) (sym sized.stores) lt) in
+        let p = plans.stores.each i (subst (λ n. i < n) (sym sized.stores) lt) in
         let lists = p.logs.lists in (
           (old.frames, lists),
           record {
             is_open = λ e. subst (λ (l : Log). IsOpenAt reads images (changelog_file i) l old.frames) (get_or_default logs.changelogs.items i d e here) old.is_open;
             are = p.logs.are;
-            count_is = p.count_is old.frames lists old.is_open.is_open.extent p.logs.are;
+            count_is = counts_behind logs.changelogs.items i d (batch_at s.stores i) (tracked_at h.stores i) (get_or plan.stores i []) (count_at (Some made) i) old.frames here old.is_open.is_open.extent p;
             content_is = ap foldrec (joined-append old.frames lists) ∙ replayed-append nothing_stored (joined old.frames) (joined lists) ∙ p.logs.replays (foldrec (joined old.frames)) old.agrees;
             cut = subst (λ (rs : List Record). IsCut (batch_at s.stores i) rs lists) (unlogged_is h.stores i (subst (λ n. i < n) (sym sized.stores) lt)) p.logs.cut;
           },

@@ -13,7 +13,7 @@ use Rattle.log_frame.specs.Cuts.{IsCut}
 use Rattle.restore_trim.specs.Refused.{HasChanges}
 use Rattle.restore_trim.specs.Standing.{OthersStay}
 use Rattle.unit_logs.specs.Unlogged.{unlogged_at}
-use Rattle.unit_logs.specs.Planned.{batch_at}
+use Rattle.core_plans.specs.Plans.{batch_at}
 
 -- each of the first so many changelogs has as many records as the checkpoint counts
 abbrev pub CountsHold : Image → Option Checkpoint → ℕ → Type 0

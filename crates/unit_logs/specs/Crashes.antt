@@ -7,7 +7,7 @@ use Rattle.log_frame.specs.Frame.{FrameView, IsFrame, AreFrames}
 use Rattle.topic_log.specs.declared.logs.Log.{Log}
 use Rattle.restore_trim.specs.Standing.{IsOpenAt, SameOutside, OthersStay}
 use Rattle.unit_logs.specs.declared.writing.Logs.{Logs}
-use Rattle.unit_logs.specs.declared.writing.Plan.{Plan}
+use Rattle.core_plans.specs.declared.planning.Frames.{Frames}
 
 -- the i-th log is open at the i-th file from this one on, with the i-th frames
 abbrev pub HaveFrames : Image → (Image → Type 0) → ℕ → List Log → (ℕ → List (List Record)) → Type 0
@@ -42,10 +42,10 @@ pub record StandWith (reads : Image) (images : Image → Type 0) (logs : Logs) (
   pub outputs : HaveFrames reads images (output_file 0) logs.outputs.items had.outputs
 
 -- the plan's frames are those of these records
-pub record IsPlanOf (logs : Logs) (plan : Plan) (more : PlanRecords) : Type 0 where
-  pub mark : IsFrame plan.frame (more.mark ∷ [])
-  pub changes : AreFramesOf (length logs.changelogs.items) plan.changes.items more.changes
-  pub sends : AreFramesOf (length logs.outputs.items) plan.sends.items more.sends
+pub record IsPlanOf (logs : Logs) (plan : Frames) (more : PlanRecords) : Type 0 where
+  pub mark : IsFrame plan.checkpoint (more.mark ∷ [])
+  pub changes : AreFramesOf (length logs.changelogs.items) plan.stores more.changes
+  pub sends : AreFramesOf (length logs.outputs.items) plan.outputs more.sends
 
 -- the checkpoint file has the frames that it had, and each other log those that it had, or those followed by all of the plan's
 pub record HasPart (changelogs outputs : ℕ) (had : TaskFrames) (more : PlanRecords) (image : Image) : Type 0 where

@@ -11,7 +11,7 @@ use Rattle.samza_model.specs.Logs.{HasLog}
 use Rattle.samza_model.specs.Restored.{IsNamed, id_of, next_at, count_at}
 use Rattle.topic_log.specs.Growth.{Passes, PassesBy}
 use Rattle.unit_logs.specs.Unlogged.{unlogged_at}
-use Rattle.unit_logs.specs.Planned.{batch_at}
+use Rattle.core_plans.specs.Plans.{batch_at}
 
 -- The checkpoint that a commit would write now: it has the setup's names, its number is one more, it covers all below the next
 -- offset, and it counts the records that each changelog has and those that are unlogged.

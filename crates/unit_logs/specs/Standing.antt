@@ -1,26 +1,24 @@
 -- A task's logs as they stand on its disk.
 use Rattle.std.specs.Prelude.{ℕ, ◌≡◌, ◌<◌, ◌≤◌, List, length, Option, slice_index_or}
-use Rattle.std.specs.List.{AllByRecursion}
 use Rattle.samza_model.specs.declared.messages.Record.{Record}
 use Rattle.samza_model.specs.declared.checkpoints.Checkpoint.{Checkpoint}
 use Rattle.samza_model.specs.declared.setups.Setup.{Setup}
-use Rattle.samza_model.specs.Checkpoint.{IsWellFormed}
 use Rattle.samza_model.specs.Content.{foldrec}
 use Rattle.samza_model.specs.Files.{Image, checkpoint_file, output_file}
 use Rattle.samza_model.specs.Logs.{joined}
-use Rattle.samza_model.specs.Restored.{HasMark, IsNamed, count_at, store_file}
+use Rattle.samza_model.specs.Restored.{HasMark, count_at, store_file}
 use Rattle.kv_store.specs.Tracked.{Tracked, AgreesOnClean}
 use Rattle.topic_log.specs.declared.logs.Log.{Log}
 use Rattle.restore_trim.specs.Standing.{IsOpenAt}
 use Rattle.unit_logs.specs.declared.writing.Logs.{Logs}
 use Rattle.unit_logs.specs.Appending.{AreOpen}
 use Rattle.core_steps.specs.Held.{Held, tracked_at}
+use Rattle.core_steps.specs.Setups.{IsCommittable}
 
--- a setup of one input, for which a checkpoint with its names has a spelling; so it has no more stores and outputs than a checkpoint
+-- a setup of one input, of which a commit can be made
 pub record IsSetUp (s : Setup) : Type 0 where
   pub one_input : length s.inputs ≡ 1
-  pub spelled : (k : Checkpoint) → IsNamed s k → IsWellFormed k
-  pub batches : AllByRecursion (λ t. (1 ≤ t.batch) × (t.batch ≤ 4096)) s.stores
+  pub committable : IsCommittable s
 
 -- a store's changelog is open, has as many records as the checkpoint counts or more, and all of them make a content that the store
 -- has but for its dirty keys

@@ -15,7 +15,7 @@ use Rattle.unit_logs.specs.Planned.{PlansCommit}
 use Rattle.unit_logs.specs.Room.{HaveRoom, OneLacksRoom, EachReaches}
 use Rattle.restore_trim.specs.Standing.{IsOpenAt, AllSound}
 use Rattle.unit_logs.specs.declared.writing.Logs.{Logs}
-use Rattle.unit_logs.specs.declared.writing.Plan.{Plan}
+use Rattle.core_plans.specs.declared.planning.Frames.{Frames}
 use Rattle.unit_logs.specs.declared.writing.Reach.{Reach}
 
 -- no call on a log answered Device
@@ -31,29 +31,29 @@ pub record StandOpen (reads : Image) (images : Image → Type 0) (logs : Logs) :
   pub outputs : AreOpen reads images (output_file 0) logs.outputs.items
 
 -- one list of frames a log, and the changelogs' files lie below the outputs'
-pub record IsPlanFor (logs : Logs) (plan : Plan) : Type 0 where
-  pub changes : length plan.changes.items ≡ length logs.changelogs.items
-  pub sends : length plan.sends.items ≡ length logs.outputs.items
+pub record IsPlanFor (logs : Logs) (plan : Frames) : Type 0 where
+  pub changes : length plan.stores ≡ length logs.changelogs.items
+  pub sends : length plan.outputs ≡ length logs.outputs.items
   pub few : length logs.changelogs.items ≤ 15
 
 -- the changelogs have room, but the checkpoint file passes 2^40 bytes by the plan
-pub record MarkLacksRoom (logs : Logs) (plan : Plan) : Type 0 where
-  pub changelogs : HaveRoom logs.changelogs.items plan.changes.items
-  pub lacks : LacksRoom (size_of logs.marks) (plan.frame ∷ [])
+pub record MarkLacksRoom (logs : Logs) (plan : Frames) : Type 0 where
+  pub changelogs : HaveRoom logs.changelogs.items plan.stores
+  pub lacks : LacksRoom (size_of logs.marks) (plan.checkpoint ∷ [])
 
 -- one of the files passes 2^40 bytes by the plan; the checkpoint file is looked at last
-abbrev pub IsNoRoomFor : Logs → Plan → Type 0
-IsNoRoomFor logs plan = OneLacksRoom logs.outputs.items plan.sends.items ⊎ (OneLacksRoom logs.changelogs.items plan.changes.items ⊎ MarkLacksRoom logs plan)
+abbrev pub IsNoRoomFor : Logs → Frames → Type 0
+IsNoRoomFor logs plan = OneLacksRoom logs.outputs.items plan.outputs ⊎ (OneLacksRoom logs.changelogs.items plan.stores ⊎ MarkLacksRoom logs plan)
 
 -- no file passes 2^40 bytes by the plan, and the logs reach so far once it is appended
-pub record Reaches (logs : Logs) (plan : Plan) (reach : Reach) : Type 0 where
-  pub marks : ReachesBy logs.marks (plan.frame ∷ []) reach.mark
-  pub changelogs : EachReaches logs.changelogs.items plan.changes.items reach.changes.items
-  pub outputs : EachReaches logs.outputs.items plan.sends.items reach.sends.items
+pub record Reaches (logs : Logs) (plan : Frames) (reach : Reach) : Type 0 where
+  pub marks : ReachesBy logs.marks (plan.checkpoint ∷ []) reach.mark
+  pub changelogs : EachReaches logs.changelogs.items plan.stores reach.changes.items
+  pub outputs : EachReaches logs.outputs.items plan.outputs reach.sends.items
 
 -- one of the files passes 2^40 bytes by what a commit appends of what is held
 pub record LacksRoomFor (s : Setup) (logs : Logs) (h : Held) (next : ℕ) : Type 0 where
-  pub draft : Plan
+  pub draft : Frames
   pub made : Checkpoint
   pub plans : PlansCommit s logs h next draft made
   pub none : IsNoRoomFor logs draft
@@ -64,7 +64,7 @@ MarksAppended reads images reads' images' log log' frame = (before : List (List 
     → IsOpenAt reads images checkpoint_file log before → IsFrame frame (r ∷ []) → IsOpenAt reads' images' checkpoint_file log' (before ++ (r ∷ []) ∷ [])
 
 -- each log has the frames that it had, followed by the plan's
-pub record AreWritten (reads : Image) (images : Image → Type 0) (reads' : Image) (images' : Image → Type 0) (logs logs' : Logs) (plan : Plan) : Type 0 where
-  pub marks : MarksAppended reads images reads' images' logs.marks logs'.marks plan.frame
-  pub changelogs : AreAppended reads images reads' images' (changelog_file 0) logs.changelogs.items logs'.changelogs.items plan.changes.items
-  pub outputs : AreAppended reads images reads' images' (output_file 0) logs.outputs.items logs'.outputs.items plan.sends.items
+pub record AreWritten (reads : Image) (images : Image → Type 0) (reads' : Image) (images' : Image → Type 0) (logs logs' : Logs) (plan : Frames) : Type 0 where
+  pub marks : MarksAppended reads images reads' images' logs.marks logs'.marks plan.checkpoint
+  pub changelogs : AreAppended reads images reads' images' (changelog_file 0) logs.changelogs.items logs'.changelogs.items plan.stores
+  pub outputs : AreAppended reads images reads' images' (output_file 0) logs.outputs.items logs'.outputs.items plan.outputs

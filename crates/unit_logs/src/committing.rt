@@ -5,13 +5,13 @@ ghost use Rattle.unit_logs.specs.Standing.{IsSetUp};
 ghost use Rattle.unit_logs.specs.Written.{LacksRoomFor, Reaches};
 
 use crate::CommitFault;
-use crate::planning::{make_mark, mark_frame, plan_sends, plan_stores};
-use crate::reaching::reach_behind;
-use crate::writing::{Logs, Plan, Reach};
+use crate::writing::{Logs, Reach};
+use core_plans::Frames;
 use kv_store::TrackedTable;
 use output_log::Outputs;
 use samza_model::{Checkpoint, NoMemory, Setup};
 use std::alloc::Global;
+use std::slice;
 
 /// What a commit appends, and the checkpoint that it makes. The checkpoint counts each changelog's records behind the
 /// commit.
@@ -22,7 +22,7 @@ fn plan_frames(
     stores: &[TrackedTable],
     outputs: &Outputs,
     next: u64,
-) -> Result<(Plan, Checkpoint), NoMemory>
+) -> Result<(Frames, Checkpoint), NoMemory>
     requires set_up { IsSetUp setup.now }
     requires sized { length stores.now ≡ length setup.now.stores }
     requires changelogs { length logs.now.changelogs.items ≡ length setup.now.stores }
@@ -35,18 +35,16 @@ fn plan_frames(
               = outputs.now.cleared;
         }) next r.0 r.1) }
 {
-    let sends = plan_sends(alloc, outputs)?;
-    let (changes, marks) = plan_stores(alloc, setup, stores, logs.changelogs.as_slice())?;
-    let made = make_mark(alloc, setup, logs.marks.len() + 1, next, marks)?;
-    let frame = mark_frame(alloc, &made)?;
-    Ok((
-        Plan {
-            changes,
-            sends,
-            frame,
-        },
-        made,
-    ))
+    let lens = logs.lens(alloc)?;
+    core_plans::plan(
+        alloc,
+        setup,
+        slice::from_ref(&next),
+        stores,
+        outputs,
+        lens.as_slice(),
+        logs.marks.len() + 1,
+    )
 }
 
 /// What a commit appends, how far the logs reach behind it, and the checkpoint that it makes.
@@ -59,7 +57,7 @@ pub fn plan_commit(
     stores: &[TrackedTable],
     outputs: &Outputs,
     next: u64,
-) -> Result<(Plan, Reach, Checkpoint), CommitFault>
+) -> Result<(Frames, Reach, Checkpoint), CommitFault>
     requires set_up { IsSetUp setup.now }
     requires sized { length stores.now ≡ length setup.now.stores }
     requires changelogs { length logs.now.changelogs.items ≡ length setup.now.stores }
@@ -84,9 +82,9 @@ pub fn plan_commit(
         }) next) }
     ensures fault { IfErr result (λ e. (e ≡ CommitFault.NoMemory) ⊎ (e ≡ CommitFault.Limit)) }
 {
-    let (plan, made) = plan_frames(alloc, setup, logs, stores, outputs, next)?;
-    match reach_behind(alloc, logs, &plan) {
-        Ok(reach) => Ok((plan, reach, made)),
+    let (frames, made) = plan_frames(alloc, setup, logs, stores, outputs, next)?;
+    match logs.reach(alloc, &frames) {
+        Ok(reach) => Ok((frames, reach, made)),
         Err(fault) => Err(fault),
     }
 }

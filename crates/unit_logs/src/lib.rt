@@ -4,10 +4,9 @@
 mod appending;
 mod committing;
 mod faults;
-mod planning;
 mod reaching;
 mod writing;
 
 pub use committing::plan_commit;
 pub use faults::CommitFault;
-pub use writing::{Logs, Plan, Reach};
+pub use writing::{Logs, Reach};

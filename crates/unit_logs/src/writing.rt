@@ -14,9 +14,9 @@ ghost use Rattle.topic_log.specs.Planning.{ReachesBy};
 
 use crate::CommitFault;
 use crate::appending::append_each;
+use core_plans::Frames;
 use disk_model::Disk;
 use log_frame::Frame;
-use samza_model::Items;
 use std::slice;
 use topic_log::{Extent, Log};
 
@@ -30,15 +30,7 @@ pub struct Logs {
     pub outputs: Vec<Log>,
 }
 
-/// The frames that a commit appends.
-#[derive(Drop)]
-pub struct Plan {
-    pub changes: Vec<Items<Frame>>,
-    pub sends: Vec<Items<Frame>>,
-    pub frame: Frame,
-}
-
-/// How far each log reaches once a plan is appended.
+/// How far each log reaches once a commit's frames are appended.
 #[derive(Drop)]
 pub struct Reach {
     pub changes: Vec<Extent>,
@@ -87,20 +79,20 @@ impl Logs {
     pub fn write<D: Disk>(
         &mut self,
         disk: &mut D,
-        plan: &Plan,
+        frames: &Frames,
         reach: &Reach,
     ) -> Result<(), CommitFault>
-        requires planned { IsPlanFor self.old plan.now }
+        requires planned { IsPlanFor self.old frames.now }
         requires sound { AreSound self.old }
-        requires reaches { Reaches self.old plan.now reach.now }
+        requires reaches { Reaches self.old frames.now reach.now }
         requires open { D.tells → StandOpen (D.reads disk.old) (D.images disk.old) self.old }
         ensures follows { OnOk result (D.tells
             → AreWritten (D.reads disk.old) (D.images disk.old) (D.reads disk.new) (D.images disk.new)
-            self.old self.new plan.now) }
-        // A crash at any moment leaves the checkpoint file as it was, or all of the plan.
+            self.old self.new frames.now) }
+        // A crash at any moment leaves the checkpoint file as it was, or all of the frames.
         ensures any_moment { D.tells → (had : TaskFrames) (more : PlanRecords)
             → StandWith (D.reads disk.old) (D.images disk.old) self.old had
-            → IsPlanOf self.old plan.now more
+            → IsPlanOf self.old frames.now more
             → LeavesOnly D.call_number D.images D.images_since disk.old disk.new
             (WriteLeaves (length self.old.changelogs.items) (length self.old.outputs.items) had
             more) }
@@ -110,22 +102,24 @@ impl Logs {
             → OthersStay (length self.old.changelogs.items) (length self.old.outputs.items)
             (D.reads disk.old) (D.reads disk.new)) }
         ensures counted { OnOk result
-            (count_of self.new.marks ≡ count_of self.old.marks + plan.now.frame.count) }
+            (count_of self.new.marks ≡ count_of self.old.marks + frames.now.checkpoint.count) }
         ensures sound { OnOk result (AreSound self.new) }
         ensures device { IfErr result (λ e. (e ≡ CommitFault.Device)
             × Rose (D.fault_count disk.old) (D.fault_count disk.new)) }
         ensures later { D.fault_count disk.old ≤ D.fault_count disk.new }
         ensures name { D.name disk.new ≡ D.name disk.old }
     {
-        match append_each(disk, &mut self.outputs, &plan.sends, &reach.sends) {
+        let outputs = frames.outputs.as_slice();
+        let stores = frames.stores.as_slice();
+        match append_each(disk, &mut self.outputs, outputs, &reach.sends) {
             Ok(()) => {}
             Err(fault) => return Err(fault),
         }
-        match append_each(disk, &mut self.changelogs, &plan.changes, &reach.changes) {
+        match append_each(disk, &mut self.changelogs, stores, &reach.changes) {
             Ok(()) => {}
             Err(fault) => return Err(fault),
         }
-        match append_mark(disk, &mut self.marks, &plan.frame, reach.mark) {
+        match append_mark(disk, &mut self.marks, &frames.checkpoint, reach.mark) {
             Ok(()) => {}
             Err(fault) => return Err(fault),
         }

@@ -10,7 +10,7 @@ use Rattle.samza_model.specs.Lawful.{Given, start_at}
 use Rattle.samza_model.specs.Partition.{partition_of}
 use Rattle.samza_model.specs.Restored.{next_at, Restores}
 use Rattle.core_steps.specs.Cores.{CoreValue, Outside, given, Adds as CoreAdds, Keeps as CoreKeeps, Stands as CoreStands}
-use Rattle.core_steps.proofs.Steps.{older_more}
+use Rattle.core_steps.proofs.Laws.{older_more}
 use Rattle.samza_model.specs.declared.marks.KeptMark.{KeptMark}
 use Rattle.samza_model.specs.Histories.{History, all_of, whole, marked, marked_at, with_event}
 use Rattle.samza_model.specs.Requests.{IsPrompt}

@@ -19,7 +19,7 @@ use Rattle.samza_model.specs.Lawful.{Given, start_at}
 use Rattle.core_steps.specs.Held.{Held, state_of, contents_of}
 use Rattle.core_steps.specs.Lanes.{lane_at}
 use Rattle.core_steps.specs.Cores.{CoreValue, Outside, given, IsCore, IsHeld, IsWindow, Commits, Stands as CoreStands}
-use Rattle.core_steps.proofs.Lanes.{low_is}
+use Rattle.core_steps.proofs.Laws.{low_is}
 use Rattle.unit_logs.specs.Unlogged.{unlogged_of}
 use Rattle.unit_logs.proofs.Laws.{marked_follows, changes_follow, sends_follow, sends_may_follow}
 use Rattle.unit_logs.specs.Commits.{IsCommitted, IsUncommitted, LeavesMade}

@@ -16,7 +16,7 @@ use Rattle.core_steps.specs.Lanes.{lane_at}
 use Rattle.core_steps.specs.Cores.{CoreValue, IsCore, Commits}
 use Rattle.topic_log.specs.Opened.{count_of}
 use Rattle.unit_logs.specs.declared.writing.Logs.{Logs}
-use Rattle.unit_logs.specs.declared.writing.Plan.{Plan}
+use Rattle.core_plans.specs.declared.planning.Frames.{Frames}
 use Rattle.unit_logs.specs.Commits.{IsCommitted, LeavesMade}
 use Rattle.unit_logs.specs.Crashes.{TaskFrames, PlanRecords, StandWith, IsPlanOf, WriteLeaves}
 use Rattle.unit_logs.specs.Planned.{PlansCommit}
@@ -47,7 +47,7 @@ module _ {P D S : Type 0} (meaning : P → Meaning) (tells : Type 0) (reads : D 
   pub stand_open_now : tells → StandOpen (reads old.disk) (images old.disk) logs
   stand_open_now told = stand_open old.core.setup (reads old.disk) (images old.disk) logs (last_mark old.marks) old.core.held (on_disk_now told) inv.changelogs_are
 
-  module _ (disk : D) (plan : Plan) (made : Checkpoint) (p : PlansCommit old.core.setup logs old.core.held (lane_at old.core.lanes 0).low plan made) (here : tells → images old.disk (reads old.disk))
+  module _ (disk : D) (plan : Frames) (made : Checkpoint) (p : PlansCommit old.core.setup logs old.core.held (lane_at old.core.lanes 0).low plan made) (here : tells → images old.disk (reads old.disk))
       (any : tells → (had : TaskFrames) (more : PlanRecords) → StandWith (reads old.disk) (images old.disk) logs had → IsPlanOf logs plan more
       → LeavesOnly number images since old.disk disk (WriteLeaves (length logs.changelogs.items) (length logs.outputs.items) had more)) where
     run : tells → (contents : List Content) → Restores old.core.setup (reads old.disk) (last_mark old.marks) contents

@@ -1,7 +1,7 @@
 use Rattle.std.proofs.Common.{refl, subst}
 use Rattle.core_steps.specs.Cores.{IsCleared}
 use Rattle.core_steps.specs.Held.{Held}
-use Rattle.core_steps.proofs.Closing.{cleared_is}
+use Rattle.core_steps.proofs.Laws.{cleared_is}
 use Rattle.core_parts.specs.contracts.holdings.Holdings.{the_view}
 use Rattle.core_parts.proofs.holdings.Holdings.clear.Goals as goal
 

@@ -1,5 +1,5 @@
 use Rattle.std.proofs.Common.{◌∙◌}
-use Rattle.core_steps.proofs.Steps.{got}
+use Rattle.core_steps.proofs.Laws.{got}
 use Rattle.core_parts.proofs.holdings.Holdings.get.Goals as goal
 
 pub returns-in-Ok : goal.returns-in-Ok

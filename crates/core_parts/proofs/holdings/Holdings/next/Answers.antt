@@ -1,5 +1,5 @@
 use Rattle.std.proofs.Common.{◌∙◌}
-use Rattle.core_steps.proofs.Steps.{got_next}
+use Rattle.core_steps.proofs.Laws.{got_next}
 use Rattle.core_parts.proofs.holdings.Holdings.next.Goals as goal
 
 pub returns-in-Ok : goal.returns-in-Ok

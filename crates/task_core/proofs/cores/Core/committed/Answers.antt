@@ -2,7 +2,7 @@ use Rattle.std.proofs.Common.{◌∙◌, ◌+◌, [], ◌++◌, ap, refl, subst,
 use Rattle.std.specs.Prelude.{filter}
 use Rattle.samza_model.specs.Journals.{belongs}
 use Rattle.core_steps.specs.Cores.{CoreValue, uncovered_now, Commits}
-use Rattle.core_steps.proofs.Closing.{marked_parts, commit_is, commits}
+use Rattle.core_steps.proofs.Laws.{marked_parts, commit_is, commits}
 use Rattle.task_core.specs.contracts.cores.Core.{the_view}
 use Rattle.task_core.proofs.cores.Core.committed.Goals as goal
 

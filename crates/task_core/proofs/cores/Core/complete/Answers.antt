@@ -1,7 +1,7 @@
 use Rattle.std.proofs.Common.{◌∙◌, ◌≡◌, ap, subst, sym, is_some, true}
 use Rattle.samza_model.specs.Events.{flight_of}
 use Rattle.core_steps.specs.Cores.{CoreValue, IsCore, after_complete}
-use Rattle.core_steps.proofs.Closing.{some_of, ready, complete_is, completed_core, complete_adds}
+use Rattle.core_steps.proofs.Laws.{some_of, ready, complete_is, completed_core, complete_adds}
 use Rattle.task_core.specs.contracts.cores.Core.{the_view}
 use Rattle.task_core.proofs.cores.Core.complete.Goals as goal
 

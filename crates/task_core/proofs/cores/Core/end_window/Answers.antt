@@ -1,6 +1,6 @@
 use Rattle.std.proofs.Common.{◌∙◌, ap, subst}
 use Rattle.core_steps.specs.Cores.{IsCore, after_window_end}
-use Rattle.core_steps.proofs.Windowing.{window_end_is, window_end_adds}
+use Rattle.core_steps.proofs.Laws.{window_end_is, window_end_adds}
 use Rattle.task_core.specs.contracts.cores.Core.{the_view}
 use Rattle.task_core.proofs.cores.Core.end_window.Goals as goal
 

@@ -1,6 +1,6 @@
 use Rattle.std.proofs.Common.{◌∙◌, ap, subst}
 use Rattle.core_steps.specs.Cores.{CoreValue, IsCore, after_window_failure}
-use Rattle.core_steps.proofs.Windowing.{window_failure_is, window_failure_adds}
+use Rattle.core_steps.proofs.Laws.{window_failure_is, window_failure_adds}
 use Rattle.task_core.specs.contracts.cores.Core.{the_view}
 use Rattle.task_core.proofs.cores.Core.fail_window.Goals as goal
 

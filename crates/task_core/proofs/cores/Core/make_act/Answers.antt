@@ -2,7 +2,7 @@ use Rattle.std.proofs.Common.{◌∙◌, ap, subst}
 use Rattle.samza_model.specs.Events.{flight_of}
 use Rattle.samza_model.specs.Requests.{greater_scope}
 use Rattle.core_steps.specs.Cores.{CoreValue, IsCore, after_act}
-use Rattle.core_steps.proofs.Closing.{act_closes, act_is, act_adds}
+use Rattle.core_steps.proofs.Laws.{act_closes, act_is, act_adds}
 use Rattle.task_core.specs.contracts.cores.Core.{the_view}
 use Rattle.task_core.proofs.cores.Core.make_act.Goals as goal
 

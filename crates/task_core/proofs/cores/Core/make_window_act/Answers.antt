@@ -1,7 +1,7 @@
 use Rattle.std.proofs.Common.{◌∙◌, ap, subst}
 use Rattle.samza_model.specs.Requests.{greater_scope}
 use Rattle.core_steps.specs.Cores.{CoreValue, IsCore, after_window_act}
-use Rattle.core_steps.proofs.Windowing.{window_act_is, window_act_adds}
+use Rattle.core_steps.proofs.Laws.{window_act_is, window_act_adds}
 use Rattle.task_core.specs.contracts.cores.Core.{the_view}
 use Rattle.task_core.proofs.cores.Core.make_window_act.Goals as goal
 

@@ -3,7 +3,7 @@ use Rattle.samza_model.specs.Journals.{Trimmed}
 use Rattle.callback_manager.specs.Callbacks.{CallbacksValue}
 use Rattle.window_timer.specs.declared.times.Times.{Times}
 use Rattle.core_steps.specs.Lanes.{begun_lane}
-use Rattle.core_steps.proofs.Begun.{begins_core, begins_sized, begins_standing}
+use Rattle.core_steps.proofs.Laws.{begins_core, begins_sized, begins_standing}
 use Rattle.task_core.proofs.cores.Core.new.Goals as goal
 
 pub invariant_of-result : goal.invariant_of-result
