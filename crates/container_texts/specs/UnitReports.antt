@@ -5,7 +5,8 @@ use Rattle.samza_model.specs.declared.setups.Setup.{Setup}
 use Rattle.samza_model.specs.Content.{Content, sent_at, store_at}
 use Rattle.samza_model.specs.Restored.{id_of}
 use Rattle.output_log.specs.Outputs.{cleared_at}
-use Rattle.task_unit.specs.Units.{UnitValue, input_of}
+use Rattle.task_unit.specs.Units.{UnitValue}
+use Rattle.unit_opening.specs.Inputs.{input_of}
 use Rattle.container_texts.specs.declared.reports.InputReport.{InputReport}
 use Rattle.container_texts.specs.declared.reports.StoreReport.{StoreReport}
 use Rattle.container_texts.specs.declared.reports.OutputReport.{OutputReport}

@@ -20,7 +20,8 @@ use Rattle.samza_model.specs.Runs.{End, runs, folds}
 use Rattle.kv_store.specs.Tracked.{Keys, no_keys, record_now, records_of}
 use Rattle.unit_logs.specs.Unlogged.{unlogged_at}
 use Rattle.task_unit.specs.Touched.{acts_of, touched, keys_in}
-use Rattle.task_unit.specs.Units.{IsMessage, NothingUnlogged, input_of}
+use Rattle.task_unit.specs.Units.{IsMessage, NothingUnlogged}
+use Rattle.unit_opening.specs.Inputs.{input_of}
 use Rattle.task_unit.proofs.Shared.{keys_in-records}
 use Rattle.samza_container.specs.Runs.{between, touched_by, AreChanges, Does}
 

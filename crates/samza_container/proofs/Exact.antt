@@ -16,10 +16,12 @@ use Rattle.job_config.specs.declared.config.JobConfig.{JobConfig}
 use Rattle.shipped_jobs.specs.Classes.{meaning_of}
 use Rattle.topic_log.proofs.Laws.{log_unique}
 use Rattle.restore_trim.specs.declared.faults.OpenFault.{OpenFault}
-use Rattle.task_unit.specs.Opens.{Opens}
-use Rattle.task_unit.specs.Units.{LogsStay, WhyNotOpened, input_of}
+use Rattle.unit_opening.specs.Opens.{Opens}
+use Rattle.unit_opening.specs.Inputs.{input_of}
+use Rattle.unit_opening.specs.Opened.{LogsStay}
+use Rattle.unit_opening.specs.Refused.{WhyNotOpened}
 use Rattle.restore_trim.proofs.Shared.{restores_one}
-use Rattle.task_unit.proofs.Shared.{not_kept_shut, one_cause}
+use Rattle.unit_opening.proofs.Shared.{not_kept_shut, one_cause}
 use Rattle.container_texts.specs.declared.faults.RunFault.{RunFault}
 use Rattle.container_texts.specs.declared.faults.RunFault.TheVariants.{Words, NoText, TextLimit, BadEscape, BadKey, NotBuilt, NoPartition, Device, NotOpened, Failed, Limit, NoMemory}
 use Rattle.samza_container.specs.Causes.{IsJobOf, IsReady, IsSetUpBy, Runnable, WhyNotReady, WhyStopped, WhyUnfinished}

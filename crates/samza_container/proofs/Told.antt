@@ -4,8 +4,8 @@ use Rattle.samza_model.specs.declared.setups.Setup.{Setup}
 use Rattle.samza_model.specs.Files.{Image}
 use Rattle.restore_trim.specs.declared.faults.OpenFault.{OpenFault}
 use Rattle.restore_trim.specs.declared.faults.OpenFault.TheVariants.{Device, Damaged, Shape, Ahead, Limit, NoMemory}
-use Rattle.task_unit.specs.Inputs.{WhyNoInput}
-use Rattle.task_unit.specs.Units.{WhyNotOpened}
+use Rattle.unit_opening.specs.Inputs.{WhyNoInput}
+use Rattle.unit_opening.specs.Refused.{WhyNotOpened}
 use Rattle.container_texts.specs.declared.faults.Stopped.{Stopped}
 use Rattle.container_texts.specs.Statuses.{status_of}
 use Rattle.samza_container.specs.Stops.{stops_with}

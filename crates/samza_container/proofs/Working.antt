@@ -17,7 +17,9 @@ use Rattle.topic_log.proofs.Laws.{frames_unique}
 use Rattle.unit_logs.specs.Growth.{PassesLimit}
 use Rattle.restore_trim.specs.Crashes.{OpeningLeaves}
 use Rattle.output_log.specs.Outputs.{cleared_at}
-use Rattle.task_unit.specs.Units.{UnitValue, LogsStay, input_of}
+use Rattle.task_unit.specs.Units.{UnitValue}
+use Rattle.unit_opening.specs.Inputs.{input_of}
+use Rattle.unit_opening.specs.Opened.{LogsStay}
 use Rattle.container_texts.specs.declared.faults.RunFault.{RunFault}
 use Rattle.container_texts.specs.declared.faults.RunFault.TheVariants.{Words, NoText, TextLimit, BadEscape, BadKey, NotBuilt, NoPartition, Device, NotOpened, Failed, Limit, NoMemory}
 use Rattle.container_texts.specs.declared.reports.TaskReport.{TaskReport}

@@ -13,7 +13,7 @@ use Rattle.disk_model.specs.declared.hosts.HostFault.{HostFault}
 use Rattle.disk_model.specs.declared.hosts.HostFault.TheVariants.{Device as HostDevice, NoMemory as HostNoMemory}
 use Rattle.job_config.specs.declared.config.JobConfig.{JobConfig}
 use Rattle.shipped_jobs.specs.Classes.{meaning_of}
-use Rattle.task_unit.specs.Units.{TellsTask, WhyNotOpened}
+use Rattle.unit_opening.specs.Refused.{TellsTask, WhyNotOpened}
 use Rattle.container_texts.specs.declared.faults.RunFault.{RunFault}
 use Rattle.container_texts.specs.declared.faults.RunFault.TheVariants.{Words, NoText, TextLimit, BadEscape, BadKey, NotBuilt, NoPartition, Device, NotOpened, Failed, Limit, NoMemory}
 use Rattle.samza_container.specs.Configured.{configured, set_up_by, task_disk, input_disk}

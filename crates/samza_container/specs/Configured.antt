@@ -5,7 +5,7 @@ use Rattle.disk_model.specs.declared.names.DiskName.{DiskName}
 use Rattle.disk_model.specs.Folders.{Folder}
 use Rattle.disk_model.specs.declared.names.DiskName.TheVariants.{Task, Stream}
 use Rattle.job_config.specs.declared.config.JobConfig.{JobConfig}
-use Rattle.task_unit.specs.Units.{input_of}
+use Rattle.unit_opening.specs.Inputs.{input_of}
 use Rattle.container_texts.specs.declared.faults.RunFault.{RunFault}
 use Rattle.container_texts.specs.declared.faults.RunFault.TheVariants.{NoText, NotBuilt, NoPartition}
 use Rattle.samza_container.specs.ConfigText.{said_by}

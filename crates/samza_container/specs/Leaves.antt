@@ -12,7 +12,7 @@ use Rattle.disk_model.specs.Handles.{SameAt}
 use Rattle.disk_model.specs.Images.{LeavesOnly}
 use Rattle.restore_trim.specs.Crashes.{OpeningLeaves}
 use Rattle.unit_logs.specs.Commits.{CommitLeaves}
-use Rattle.task_unit.specs.Units.{LogsStay}
+use Rattle.unit_opening.specs.Opened.{LogsStay}
 use Rattle.samza_container.specs.Causes.{IsReady}
 use Rattle.samza_container.specs.Configured.{input_disk, task_disk}
 use Rattle.samza_container.specs.Runs.{fresh, AreChanges, Does, Start}

@@ -19,7 +19,9 @@ use Rattle.unit_logs.specs.Growth.{PassesLimit}
 use Rattle.unit_logs.specs.Unlogged.{unlogged_at}
 use Rattle.task_unit.specs.Touched.{acts_of, touched}
 use Rattle.restore_trim.specs.Refused.{StoresOpen}
-use Rattle.task_unit.specs.Units.{UnitValue, IsFailed, LogsStay, input_of}
+use Rattle.task_unit.specs.Units.{UnitValue, IsFailed}
+use Rattle.unit_opening.specs.Inputs.{input_of}
+use Rattle.unit_opening.specs.Opened.{LogsStay}
 
 -- the messages from one offset on that lie below another
 abbrev pub between : List Record → ℕ → ℕ → List Record

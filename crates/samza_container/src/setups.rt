@@ -2,7 +2,7 @@
 ghost use Rattle.std.specs.Prelude.{◌≡◌, None, IfOk, map};
 ghost use Rattle.job_config.specs.Bounds.{IsBounded};
 ghost use Rattle.unit_logs.specs.Standing.{IsSetUp};
-ghost use Rattle.task_unit.specs.Units.{input_of};
+ghost use Rattle.unit_opening.specs.Inputs.{input_of};
 ghost use Rattle.samza_container.specs.Configured.{input_disk};
 ghost use Rattle.samza_container.specs.NotBuilt.{first_not_built};
 ghost use Rattle.samza_container.specs.SetUp.{input_setup, setup_of};

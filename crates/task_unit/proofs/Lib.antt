@@ -1,8 +1,6 @@
-mod Begun
-mod Exact
 mod Flushed
+mod Kept
 mod Made
-mod OneCause
 pub mod Shared
 mod TakingBack
 mod Touching

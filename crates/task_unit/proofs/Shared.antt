@@ -1,4 +1,2 @@
 -- What the crates above may use of this crate's proofs: laws of its definitions. No other file here is theirs to import.
-pub use Rattle.task_unit.proofs.Exact.{not_kept_shut}
-pub use Rattle.task_unit.proofs.OneCause.{one_cause}
 pub use Rattle.task_unit.proofs.Touching.{keys_in-records}

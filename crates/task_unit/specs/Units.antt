@@ -1,38 +1,29 @@
 -- A task's unit: what it holds, what stands on its disk, and what its calls do.
-use Rattle.std.specs.Prelude.{◌⊎◌, ◌↔◌, ℕ, ◌≡◌, ◌<◌, ◌≤◌, ◌+◌, ◌-◌, Bool, false, List, [], ◌++◌, length, Option, Some, None, slice_index_or}
+use Rattle.std.specs.Prelude.{ℕ, ◌≡◌, ◌<◌, ◌≤◌, ◌+◌, ◌-◌, Bool, false, List, [], length, Option, Some, None}
 use Rattle.std.specs.FinMap as fin
 use Rattle.samza_model.specs.declared.messages.Record.{Record}
 use Rattle.samza_model.specs.declared.messages.Envelope.{Envelope}
 use Rattle.samza_model.specs.declared.checkpoints.Checkpoint.{Checkpoint}
 use Rattle.samza_model.specs.declared.setups.Setup.{Setup}
-use Rattle.samza_model.specs.declared.setups.InputSetup.{InputSetup}
-use Rattle.samza_model.specs.declared.setups.OffsetDefault.TheVariants.{Oldest}
 use Rattle.samza_model.specs.declared.turns.Failure.{Failure}
 use Rattle.samza_model.specs.declared.turns.Turn.TheVariants.{Call}
-use Rattle.samza_model.specs.Content.{Content, State, foldrec, sent_at, store_at}
-use Rattle.samza_model.specs.Files.{Image, checkpoint_file, changelog_file, output_file}
-use Rattle.samza_model.specs.Limits.{frame_batch}
-use Rattle.samza_model.specs.Logs.{joined, HasFrames, HasLog}
+use Rattle.samza_model.specs.Content.{Content, State, sent_at, store_at}
+use Rattle.samza_model.specs.Files.{Image}
 use Rattle.samza_model.specs.Meaning.{Meaning}
-use Rattle.samza_model.specs.Partition.{partition_of, message, end_of}
-use Rattle.samza_model.specs.Restored.{id_of, next_at, count_at, store_file}
+use Rattle.samza_model.specs.Partition.{partition_of, message}
+use Rattle.samza_model.specs.Restored.{id_of}
 use Rattle.samza_model.specs.Runs.{runs}
 use Rattle.output_log.specs.Outputs.{cleared_at}
 use Rattle.topic_log.specs.Opened.{count_of}
-use Rattle.restore_trim.specs.declared.faults.OpenFault.{OpenFault}
-use Rattle.restore_trim.specs.declared.faults.OpenFault.TheVariants.{Ahead}
-use Rattle.restore_trim.specs.Refused.{FilesHold, TellsFiles, WhyRefused}
-use Rattle.changelog.specs.Folds.{reverts_of}
 use Rattle.kv_store.specs.Tracked.{records_of}
-use Rattle.log_frame.specs.Cuts.{IsCut}
 use Rattle.task_unit.specs.declared.acting.Holdings.{Holdings}
 use Rattle.unit_logs.specs.declared.writing.Logs.{Logs}
 use Rattle.task_unit.specs.Acting.{held, undos_of}
-use Rattle.task_unit.specs.Inputs.{TellsInput, WhyNoInput}
 use Rattle.task_unit.specs.Touched.{acts_of, touched, keys_in}
 use Rattle.unit_logs.specs.Commits.{IsCommitted, LeavesMade, CommitLeaves}
 use Rattle.unit_logs.specs.Growth.{PassesLimit}
 use Rattle.core_steps.specs.Held.{IsSized}
+use Rattle.unit_opening.specs.Inputs.{input_of}
 use Rattle.unit_logs.specs.Unlogged.{unlogged_at}
 use Rattle.unit_logs.specs.Standing.{IsSetUp, OnDisk}
 use Rattle.unit_logs.specs.Written.{AreSound}
@@ -50,26 +41,6 @@ pub record IsUnit {D : Type 0} (tells : Type 0) (reads : D → Image) (images : 
   -- on every outside the checkpoint file has as many records as the last checkpoint's number says
   pub counted : broken ≡ false → count_of logs.marks ≡ id_of mark
   pub stands : broken ≡ false → tells → OnDisk (reads disk) (images disk) s logs mark (held h)
-
--- the file has the frames that it had
-abbrev pub SameFrames : Image → Image → ℕ → Type 0
-SameFrames before after file = (frames : List (List Record)) → HasFrames (before file) frames ↔ HasFrames (after file) frames
-
--- a changelog has the frames that it had and, behind them, what takes the records behind so many back, in frames of at most `frame_batch`
-abbrev pub IsReverted : ℕ → List ℕ → List ℕ → Type 0
-IsReverted count before after = (frames : List (List Record)) → HasFrames before frames
-    → (reverts : List (List Record)) × IsCut frame_batch (reverts_of count (joined frames)) reverts × HasFrames after (frames ++ reverts)
-
--- the checkpoint file and each output's log have the frames that they had, and each changelog has its records behind those that
--- the checkpoint counts taken back
-pub record LogsStay (s : Setup) (mark : Option Checkpoint) (before after : Image) : Type 0 where
-  pub marks : SameFrames before after checkpoint_file
-  pub changelogs : (i : ℕ) → i < length s.stores → IsReverted (count_at mark i) (before (store_file mark i)) (after (store_file mark i))
-  pub outputs : (j : ℕ) → j < length s.outputs → SameFrames before after (output_file j)
-
--- all records of each changelog make its store's content
-abbrev pub AreWhole : Setup → Image → List Content → Type 0
-AreWhole s image stores = (i : ℕ) (records : List Record) → i < length s.stores → HasLog (image (changelog_file i)) records → foldrec records ≡ store_at stores i
 
 -- what a unit is to contracts: its job as plain data, what it was given, and what it holds
 pub record UnitValue (P D S : Type 0) : Type 0 where
@@ -122,10 +93,6 @@ NothingUnsent s sent = (j : ℕ) → j < length s.outputs → sent_at sent j ≡
 abbrev pub NothingUnlogged : Setup → List (List Record) → Type 0
 NothingUnlogged s unlogged = (i : ℕ) → i < length s.stores → unlogged_at unlogged i ≡ []
 
--- the setup's one input
-abbrev pub input_of : Setup → InputSetup
-input_of s = slice_index_or s.inputs 0 (record { ssp = record { system = []; stream = []; partition = 0 }; fallback = Oldest; reset = false })
-
 -- the input's message at an offset, with its place
 pub record IsMessage (s : Setup) (messages : List Record) (offset : ℕ) (e : Envelope) : Type 0 where
   pub ssp_is : e.ssp ≡ (input_of s).ssp
@@ -150,30 +117,3 @@ pub record IsFailed (job : Meaning) (s : Setup) (messages : List Record) (begun 
   pub ended : (runs job s message state).end ≡ Some f.why
   pub turn_is : f.turn ≡ Call (next - begun)
   pub place_is : f.place ≡ Some (0, next)
-
--- the task's own files restore to a checkpoint, and its input isn't read
-pub record InputRefused (tells told : Type 0) (s : Setup) (image : Image) (bytes : List ℕ) (e : OpenFault) : Type 0 where
-  pub mark : Option Checkpoint
-  pub hold : tells → FilesHold s image mark
-  pub why : WhyNoInput told bytes (input_of s).ssp.partition e
-
--- the task's own files restore to a checkpoint, its input is read, and the checkpoint's offset of the input passes the input's end
-pub record IsPastEnd (tells told : Type 0) (s : Setup) (image : Image) (bytes : List ℕ) (e : OpenFault) : Type 0 where
-  pub mark : Option Checkpoint
-  pub hold : tells → FilesHold s image mark
-  pub records : List Record
-  pub read : told → HasLog bytes records
-  pub next : ℕ
-  pub kept : next_at mark 0 ≡ Some next
-  pub honoured : (input_of s).reset ≡ false
-  pub past : end_of (partition_of records) < next
-  pub fault : e ≡ Ahead (Some 0) None next (end_of (partition_of records))
-
--- what a refusal tells, on every outside: one of the task's own files or stores, or its input
-abbrev pub TellsTask : Setup → OpenFault → Type 0
-TellsTask s e = TellsFiles (length s.stores) (length s.outputs) e ⊎ TellsInput (input_of s).ssp.partition e
-
--- why a task isn't opened, the first cause in the order of work: its own files don't restore, its input isn't read, or the kept
--- offset passes the input's end
-abbrev pub WhyNotOpened : Type 0 → Type 0 → Setup → Image → List ℕ → OpenFault → Type 0
-WhyNotOpened tells told s image bytes e = (tells → WhyRefused s image e) ⊎ (InputRefused tells told s image bytes e ⊎ IsPastEnd tells told s image bytes e)

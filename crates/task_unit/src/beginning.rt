@@ -1,8 +1,6 @@
-// Where a unit begins: its files restored, its input read, and its first message found.
-ghost use Rattle.std.specs.Prelude.{◌≡◌, ◌≢◌, ◌≤◌, ◌<◌, ◌⊎◌, ℕ, [], false, All, List, length, Some, None, IfOk, IfErr, IfSome, OnOk};
-ghost use Rattle.samza_model.specs.declared.messages.Record.{Record as RecordValue};
+// Where a unit begins: its task opened, and its stores held.
+ghost use Rattle.std.specs.Prelude.{◌≡◌, ◌≢◌, ◌≤◌, ◌<◌, ◌⊎◌, ℕ, [], All, length, Some, None, IfOk, IfErr, IfSome, OnOk};
 ghost use Rattle.samza_model.specs.declared.messages.Envelope.{Envelope as EnvelopeValue};
-ghost use Rattle.samza_model.specs.declared.checkpoints.Checkpoint.{Checkpoint as CheckpointValue};
 ghost use Rattle.samza_model.specs.Content.{sent_at};
 ghost use Rattle.samza_model.specs.Counters.{Rose};
 ghost use Rattle.samza_model.specs.Files.{Image};
@@ -19,24 +17,22 @@ ghost use Rattle.output_log.specs.Outputs.{cleared_at};
 ghost use Rattle.task_unit.specs.Acting.{held, undos_of};
 ghost use Rattle.core_steps.specs.Held.{IsSized, contents_of, state_of};
 ghost use Rattle.task_unit.specs.Held.{AreClean};
-ghost use Rattle.task_unit.specs.Inputs.{TellsInput, WhyNoInput};
 ghost use Rattle.unit_logs.specs.Standing.{IsSetUp, OnDisk};
-ghost use Rattle.task_unit.specs.Units.{LogsStay, AreWhole, IsMessage, input_of, TellsTask, WhyNotOpened};
+ghost use Rattle.task_unit.specs.Units.{IsMessage};
 ghost use Rattle.unit_logs.specs.Written.{AreSound};
+ghost use Rattle.unit_opening.specs.Inputs.{input_of};
+ghost use Rattle.unit_opening.specs.Opened.{AreWhole, LogsStay};
+ghost use Rattle.unit_opening.specs.Refused.{TellsTask, WhyNotOpened};
 
 use crate::OpenFault;
 use crate::acting::Holdings;
-use changelog::Changelog;
 use disk_model::{Disk, Shelf};
 use kv_store::{Table, TrackedTable};
 use output_log::Outputs;
-use restore_trim::{Restored, restore};
-use samza_model::{
-    Checkpoint, Envelope, InputSetup, Items, NoMemory, OffsetDefault, Plain, Record, Setup, put,
-};
+use samza_model::{Checkpoint, Envelope, Items, NoMemory, Plain, Record, Setup, put};
 use std::alloc::Global;
-use topic_log::{Log, LogFault, read_shelf};
 use unit_logs::Logs;
+use unit_opening::{OpenedTask, open_task};
 
 /// What a unit begins with.
 #[derive(Drop)]
@@ -85,70 +81,6 @@ fn track_all(alloc: Global, tables: Items<Table>) -> Result<Vec<TrackedTable>, N
     Ok(stores)
 }
 
-/// The changelogs' logs.
-fn logs_of(alloc: Global, changelogs: Items<Changelog>) -> Result<Vec<Log>, NoMemory>
-    ensures { IfOk result (λ r. r.items ≡ changelogs) }
-{
-    let mut logs = Vec::new(alloc);
-    for changelog in changelogs.into_vec() {
-        put(&mut logs, changelog.into_log())?;
-    }
-    Ok(logs)
-}
-
-/// An input's first offset: the kept one, unless there is none or the input is reset.
-#[tactic(auto, using(samza_model::proofs::Laws::start_in, samza_model::proofs::Laws::end_in))]
-fn first_offset(kept: Option<u64>, input: &InputSetup, end: u64) -> Result<u64, OpenFault>
-    ensures start { IfOk result (λ n. (records : List RecordValue) → end ≡ length records
-        → n ≡ start_of kept input.now (partition_of records)) }
-    ensures within { IfOk result (λ n. n ≤ end) }
-    ensures never { IfErr result (λ e. e ≢ OpenFault.Device) }
-    ensures told { (partition : ℕ) → IfErr result (TellsInput partition) }
-    ensures ahead { IfErr result (λ e. (next : ℕ) × (e ≡ OpenFault.Ahead (Some 0) None next end)
-        × (kept ≡ Some next) × (input.now.reset ≡ false) × (end < next)) }
-{
-    match kept {
-        Some(next) if !input.reset => {
-            if end < next {
-                return Err(OpenFault::Ahead {
-                    input: Some(0),
-                    store: None,
-                    wanted: next,
-                    held: end,
-                });
-            }
-            Ok(next)
-        }
-        _ => match input.fallback {
-            OffsetDefault::Oldest => Ok(0),
-            OffsetDefault::Upcoming => Ok(end),
-        },
-    }
-}
-
-/// The first uncovered offset of the checkpoint's first input.
-fn kept_offset(mark: &Option<Checkpoint>) -> Option<u64>
-    ensures kept { (k : CheckpointValue) → mark.now ≡ Some k → 0 < length k.inputs
-        → result ≡ next_at mark.now 0 }
-    ensures none { mark.now ≡ None → result ≡ None }
-{
-    match mark {
-        Some(checkpoint) => match checkpoint.inputs.as_slice().get(0) {
-            Some(input) => Some(input.next),
-            None => None,
-        },
-        None => None,
-    }
-}
-
-/// The setup's one input.
-fn first_input(setup: &Setup) -> &InputSetup
-    requires { length setup.now.inputs ≡ 1 }
-    ensures { result.now ≡ input_of setup.now }
-{
-    &setup.inputs.as_slice()[0]
-}
-
 /// What a unit holds at its start.
 fn hold(alloc: Global, stores: Vec<TrackedTable>, outputs: u32) -> Result<Holdings, NoMemory>
     ensures stores { IfOk result (λ h. (held h).stores ≡ stores.items) }
@@ -162,48 +94,11 @@ fn hold(alloc: Global, stores: Vec<TrackedTable>, outputs: u32) -> Result<Holdin
     Ok(Holdings::new(alloc, stores, outputs))
 }
 
-/// An input's messages.
-fn read_input<S: Shelf>(
-    alloc: Global,
-    shelf: &mut S,
-    partition: u32,
-) -> Result<Vec<Record>, OpenFault>
-    ensures log { IfOk result (λ records. S.tells → HasLog (S.bytes shelf.old) records.items) }
-    ensures why { IfErr result (λ e. WhyNoInput S.tells (S.bytes shelf.old) partition e) }
-    ensures told { IfErr result (TellsInput partition) }
-    ensures device { IfErr result (λ e. e ≡ OpenFault.Device
-        → Rose (S.fault_count shelf.old) (S.fault_count shelf.new)) }
-    ensures later { S.fault_count shelf.old ≤ S.fault_count shelf.new }
-    ensures name { S.name shelf.new ≡ S.name shelf.old }
-    ensures file { S.file shelf.new ≡ S.file shelf.old }
-{
-    match read_shelf(alloc, shelf) {
-        Ok(records) => Ok(records),
-        Err(LogFault::Device) => Err(OpenFault::Device),
-        Err(LogFault::Damaged { at }) => Err(OpenFault::Damaged {
-            input: Some(0),
-            file: partition,
-            at,
-        }),
-        Err(LogFault::NoMemory) => Err(OpenFault::NoMemory),
-        Err(LogFault::Limit | LogFault::Broken) => unreachable!(),
-    }
-}
-
-/// What a unit begins with, of what was restored and of its input's messages.
-fn begin(
-    alloc: Global,
-    restored: Restored,
-    outputs: u32,
-    messages: Vec<Record>,
-    next: u64,
-) -> Result<Started, NoMemory>
-    requires { All AreWithinLimits restored.tables }
-    ensures logs { IfOk result (λ r. (r.logs.marks ≡ restored.marks)
-        × (r.logs.changelogs.items ≡ restored.changelogs)
-        × (r.logs.outputs.items ≡ restored.outputs)) }
-    ensures mark { IfOk result (λ r. r.mark ≡ restored.checkpoint) }
-    ensures contents { IfOk result (λ r. contents_of (held r.holdings).stores ≡ restored.tables) }
+/// What a unit begins with, of what its task was opened with.
+fn begin(alloc: Global, opened: OpenedTask, outputs: u32) -> Result<Started, NoMemory>
+    requires { All AreWithinLimits opened.tables }
+    ensures logs { IfOk result (λ r. (r.logs ≡ opened.logs) × (r.mark ≡ opened.mark)) }
+    ensures contents { IfOk result (λ r. contents_of (held r.holdings).stores ≡ opened.tables) }
     ensures clean { IfOk result (λ r. AreClean (held r.holdings).stores) }
     ensures outputs { IfOk result (λ r. length (held r.holdings).unsent ≡ outputs) }
     ensures none { IfOk result (λ r. (j : ℕ) → j < outputs
@@ -211,25 +106,21 @@ fn begin(
     ensures none_before { IfOk result (λ r. (j : ℕ) → j < outputs
         → cleared_at (held r.holdings).cleared j ≡ 0) }
     ensures idle { IfOk result (λ r. undos_of r.holdings ≡ []) }
-    ensures input { IfOk result (λ r. (r.messages.items ≡ messages.items) × (r.next ≡ next)) }
+    ensures input { IfOk result (λ r. (r.messages.items ≡ opened.messages.items)
+        × (r.next ≡ opened.next)) }
 {
-    let stores = track_all(alloc, restored.tables)?;
-    let changelogs = logs_of(alloc, restored.changelogs)?;
+    let stores = track_all(alloc, opened.tables)?;
     let holdings = hold(alloc, stores, outputs)?;
     Ok(Started {
-        logs: Logs {
-            marks: restored.marks,
-            changelogs,
-            outputs: restored.outputs.into_vec(),
-        },
-        mark: restored.checkpoint,
+        logs: opened.logs,
+        mark: opened.mark,
         holdings,
-        messages,
-        next,
+        messages: opened.messages,
+        next: opened.next,
     })
 }
 
-/// Restores the task, reads its input, and finds the input's first message to process.
+/// Opens the task, and holds its stores with nothing to commit.
 pub(crate) fn start<D: Disk, S: Shelf>(
     alloc: Global,
     setup: &Setup,
@@ -287,25 +178,12 @@ pub(crate) fn start<D: Disk, S: Shelf>(
     ensures name { D.name disk.new ≡ D.name disk.old }
     ensures shelf { (S.name shelf.new ≡ S.name shelf.old) × (S.file shelf.new ≡ S.file shelf.old) }
 {
-    let restored = match restore(alloc, disk, setup) {
-        Ok(restored) => restored,
-        Err(fault) => return Err(fault),
-    };
-    let input = first_input(setup);
-    let messages = match read_input(alloc, shelf, input.ssp.partition) {
-        Ok(messages) => messages,
-        Err(fault) => return Err(fault),
-    };
-    let next = match first_offset(
-        kept_offset(&restored.checkpoint),
-        input,
-        messages.as_slice().len() as u64,
-    ) {
-        Ok(next) => next,
+    let opened = match open_task(alloc, setup, disk, shelf) {
+        Ok(opened) => opened,
         Err(fault) => return Err(fault),
     };
     let outputs = setup.outputs.as_slice().len() as u32;
-    match begin(alloc, restored, outputs, messages, next) {
+    match begin(alloc, opened, outputs) {
         Ok(started) => Ok(started),
         Err(_) => Err(OpenFault::NoMemory),
     }

@@ -15,7 +15,10 @@ ghost use Rattle.restore_trim.specs.Crashes.{OpeningLeaves};
 ghost use Rattle.restore_trim.specs.Refused.{StoresOpen};
 ghost use Rattle.restore_trim.specs.Standing.{OthersStay};
 ghost use Rattle.unit_logs.specs.Standing.{IsSetUp};
-ghost use Rattle.task_unit.specs.Units.{LogsStay, Counts, IsProcessed, IsFailed, IsCommitOf, MadeLeaves, CrashLeaves, CommitPasses, NothingUnsent, NothingUnlogged, AreWhole, input_of, TellsTask, WhyNotOpened};
+ghost use Rattle.task_unit.specs.Units.{Counts, IsProcessed, IsFailed, IsCommitOf, MadeLeaves, CrashLeaves, CommitPasses, NothingUnsent, NothingUnlogged};
+ghost use Rattle.unit_opening.specs.Inputs.{input_of};
+ghost use Rattle.unit_opening.specs.Opened.{AreWhole, LogsStay};
+ghost use Rattle.unit_opening.specs.Refused.{TellsTask, WhyNotOpened};
 
 use crate::acting::Holdings;
 use crate::beginning::{envelope_at, start};

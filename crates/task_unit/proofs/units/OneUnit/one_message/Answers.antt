@@ -8,7 +8,7 @@ use Rattle.unit_logs.specs.Unlogged.{unlogged_of}
 use Rattle.task_unit.specs.Touched.{acts_of}
 use Rattle.task_unit.specs.Units.{IsMessage, IsProcessed}
 use Rattle.task_unit.proofs.Touching.{unlogged_behind}
-use Rattle.task_unit.proofs.Begun.{stands_kept}
+use Rattle.task_unit.proofs.Kept.{stands_kept}
 use Rattle.task_unit.proofs.units.OneUnit.one_message.Goals as goal
 
 pub invariant_of-self : goal.invariant_of-self

@@ -14,9 +14,9 @@ use Rattle.checkpoint_log.specs.Ends.{IsBadEnd}
 use Rattle.restore_trim.specs.declared.faults.OpenFault.{OpenFault}
 use Rattle.restore_trim.specs.declared.faults.OpenFault.TheVariants.{Device, Damaged, Shape, Ahead, Limit, NoMemory}
 use Rattle.restore_trim.specs.Refused.{FilesHold, HasChanges, OutputsHold, OutputsRefused, StoreOpens, StoresOpen, StoresRefused, WhyNoFile, WhyNoMark, WhyNoStore, WhyRefused}
-use Rattle.task_unit.specs.Inputs.{WhyNoInput}
-use Rattle.task_unit.specs.Opens.{Opens}
-use Rattle.task_unit.specs.Units.{IsPastEnd, WhyNotOpened, input_of}
+use Rattle.unit_opening.specs.Inputs.{WhyNoInput, input_of}
+use Rattle.unit_opening.specs.Opens.{Opens}
+use Rattle.unit_opening.specs.Refused.{IsPastEnd, WhyNotOpened}
 
 not_bad : (s : Setup) (frames : List (List Record)) (at : ℕ) (m : Option Checkpoint) → HasMark s frames m → IsBadEnd frames at → ⊥
 not_bad s frames at None none bad = none_ends frames bad.before bad.last none bad.split

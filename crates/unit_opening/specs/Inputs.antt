@@ -1,8 +1,15 @@
--- Why a task's input isn't read.
-use Rattle.std.specs.Prelude.{ℕ, ◌≡◌, ◌<◌, List, Some, None}
+-- A task's input, and why it isn't read.
+use Rattle.std.specs.Prelude.{ℕ, ◌≡◌, ◌<◌, false, List, [], Some, None, slice_index_or}
+use Rattle.samza_model.specs.declared.setups.Setup.{Setup}
+use Rattle.samza_model.specs.declared.setups.InputSetup.{InputSetup}
+use Rattle.samza_model.specs.declared.setups.OffsetDefault.TheVariants.{Oldest}
 use Rattle.restore_trim.specs.declared.faults.OpenFault.{OpenFault}
 use Rattle.restore_trim.specs.declared.faults.OpenFault.TheVariants.{Device, Damaged, Ahead, NoMemory}
 use Rattle.restore_trim.specs.Refused.{IsNoLogAt}
+
+-- the setup's one input
+abbrev pub input_of : Setup → InputSetup
+input_of s = slice_index_or s.inputs 0 (record { ssp = record { system = []; stream = []; partition = 0 }; fallback = Oldest; reset = false })
 
 -- what a refusal tells of the input, on every outside: its partition's file, or that it ends before the kept offset;
 -- beside these the device or want of memory alone

@@ -8,7 +8,7 @@ use Rattle.samza_model.specs.Logs.{HasLog}
 use Rattle.samza_model.specs.Partition.{partition_of, end_of}
 use Rattle.samza_model.specs.Restored.{next_at, start_of}
 use Rattle.restore_trim.specs.Refused.{FilesHold}
-use Rattle.task_unit.specs.Units.{input_of}
+use Rattle.unit_opening.specs.Inputs.{input_of}
 
 -- the task's own files can be opened at some checkpoint, the input's file is a log, and where the input begins isn't past its end
 pub record Opens (s : Setup) (image : Image) (bytes : List ℕ) : Type 0 where

@@ -14,10 +14,10 @@ use Rattle.topic_log.proofs.Laws.{damage_unique, damaged_once, frames_unique, lo
 use Rattle.restore_trim.specs.declared.faults.OpenFault.{OpenFault}
 use Rattle.restore_trim.specs.declared.faults.OpenFault.TheVariants.{Device, Damaged, Shape, Ahead, Limit, NoMemory}
 use Rattle.restore_trim.specs.Refused.{EndsBadly, HasChanges, HasOtherNames, OutputsRefused, RevertPasses, StoresRefused, WhyNoFile, WhyNoMark, WhyNoStore, WhyRefused}
-use Rattle.task_unit.specs.Inputs.{WhyNoInput}
-use Rattle.task_unit.specs.Units.{InputRefused, IsPastEnd, WhyNotOpened, input_of}
+use Rattle.unit_opening.specs.Inputs.{WhyNoInput, input_of}
+use Rattle.unit_opening.specs.Refused.{InputRefused, IsPastEnd, WhyNotOpened}
 use Rattle.restore_trim.proofs.Shared.{marked_one}
-use Rattle.task_unit.proofs.Exact.{changes_one, has_file, has_input, has_mark, has_store, has_stores, not_refused}
+use Rattle.unit_opening.proofs.Exact.{changes_one, has_file, has_input, has_mark, has_store, has_stores, not_refused}
 
 -- a fault that is one of these two is free of a cause
 record IsOther (e : OpenFault) : Type 0 where

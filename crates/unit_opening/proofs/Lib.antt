@@ -1,0 +1,4 @@
+mod Begun
+mod Exact
+mod OneCause
+pub mod Shared

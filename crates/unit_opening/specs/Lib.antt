@@ -1,0 +1,4 @@
+pub mod Inputs
+pub mod Opened
+pub mod Opens
+pub mod Refused
