@@ -1,5 +1,5 @@
 -- A core of one input, one store and one output can be made.
-use Rattle.std.proofs.Common.{ℕ, zero, suc, ◌≡◌, ◌<◌, ◌≤◌, ◌∙◌, List, [], ◌∷◌, Option, Some, None, length, map, true, refl, is_some, cond, ap, sym, subst, arith, rules, get_or, slice_index_or}
+use Rattle.std.proofs.Common.{ℕ, zero, suc, ◌≡◌, ◌<◌, ◌≤◌, ◌∙◌, List, [], ◌∷◌, length, map, true, refl, is_some, cond, ap, sym, subst, arith, get_or, slice_index_or}
 use Rattle.std.specs.List.{AllByRecursion}
 use Rattle.std.specs.Ordering.{nat_cmp}
 use Rattle.std.specs.Cmp.Lexicographic.{slice_cmp}
@@ -15,7 +15,6 @@ use Rattle.samza_model.specs.Content.{Content, nothing_stored}
 use Rattle.samza_model.specs.Names.{is_system, is_topic, topic_of}
 use Rattle.samza_model.specs.Restored.{IsNamed, marked_place, setup_names, setup_place}
 use Rattle.kv_store.specs.Tracked.{AreWithinLimits}
-use Rattle.core_steps.specs.Setups.{IsRunnable}
 
 -- a list of which a map makes one item
 one_of : {X Y : Type 0} (f : X → Y) (xs : List X) (y : Y) → map f xs ≡ y ∷ [] → (x : X) × (xs ≡ x ∷ []) × (f x ≡ y)

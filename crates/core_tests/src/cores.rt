@@ -1,7 +1,5 @@
 // A core of the word count's task, in which nothing is stored yet, and what is looked at of it.
-ghost use Rattle.std.specs.Prelude.{◌≡◌, ◌∷◌, [], ℕ, List, IfOk, true, ◌<◌, length};
-ghost use Rattle.samza_model.specs.Content.{nothing_stored};
-ghost use Rattle.core_steps.specs.Cores.{CoreValue, IsCore};
+ghost use Rattle.std.specs.Prelude.{◌≡◌, ◌∷◌, [], IfOk, true, ◌<◌, length};
 ghost use Rattle.core_steps.specs.Setups.{IsRunnable};
 ghost use Rattle.samza_model.specs.Names.{is_system, is_topic, topic_of};
 

@@ -1,5 +1,5 @@
-//! Worked examples of a task's parts in memory: windows of offsets, callbacks in flight, packed events, and the core that they make.
-//! What is wanted was found by hand.
+//! Worked examples of a task's parts in memory: windows of offsets, callbacks in flight, packed events, and the core that they
+//! make. What is wanted was found by hand.
 #![tactic(auto)]
 
 #[cfg(test)]

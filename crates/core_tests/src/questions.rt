@@ -1,22 +1,16 @@
 // What comes of questions that are held while a core goes on.
 use crate::cores::{Shape, begin, body};
-use crate::steps::{Look, Told, deliver, end, outcome, question, stands};
+use crate::steps::{GOES_ON, Look, Told, deliver, end, outcome, question, stands};
 use samza_model::{NoMemory, Turn};
 use std::alloc::Global;
 use std::test::Fail;
-use task_core::{Applied, Core};
+use task_core::Core;
 
 const SHAPE: Shape = Shape {
     concurrency: 1,
     span: 65_536,
     async_commit: false,
     end: 1,
-};
-
-const GOES_ON: Applied = Applied {
-    ended: false,
-    failed: false,
-    ask: None,
 };
 
 /// Where a core stands whose one callback was answered nothing.

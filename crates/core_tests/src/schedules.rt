@@ -1,6 +1,6 @@
 // What callbacks of the word count come to, as their acts take turns.
 use crate::cores::{Shape, begin};
-use crate::steps::{Look, Step, Told, first_wrong};
+use crate::steps::{GOES_ON, Look, Step, Told, first_wrong};
 use samza_model::{Failure, NoMemory, Turn, Why};
 use std::alloc::Global;
 use std::test::Fail;
@@ -8,12 +8,6 @@ use task_core::{Applied, DeliverFault, OpenWindowFault, PlanFault, Status};
 
 const ENDED: Applied = Applied {
     ended: true,
-    failed: false,
-    ask: None,
-};
-
-const GOES_ON: Applied = Applied {
-    ended: false,
     failed: false,
     ask: None,
 };

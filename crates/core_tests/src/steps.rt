@@ -23,6 +23,13 @@ pub(crate) enum Told {
     NoMemory,
 }
 
+/// An act that was answered, and asks for nothing.
+pub(crate) const GOES_ON: Applied = Applied {
+    ended: false,
+    failed: false,
+    ask: None,
+};
+
 /// Where a core stands.
 #[derive(Clone, Copy)]
 pub(crate) struct Look {
@@ -172,7 +179,7 @@ fn ask(alloc: Global, core: &mut Core, turn: Turn) -> Told {
     }
 }
 
-/// A commit's number, and the offset that the one input goes on at behind it.
+/// A mark's number, and the offset that the one input goes on at behind it.
 fn marked(mark: &Checkpoint) -> (u64, u64) {
     match mark.inputs.as_slice() {
         [input] => (mark.id, input.next),
