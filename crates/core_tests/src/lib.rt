@@ -1,10 +1,18 @@
-//! Worked examples of a task's parts in memory: windows of offsets, callbacks in flight and packed events. What is wanted was
-//! found by hand.
+//! Worked examples of a task's parts in memory: windows of offsets, callbacks in flight, packed events, and the core that they
+//! make. What is wanted was found by hand.
 #![tactic(auto)]
 
 #[cfg(test)]
 mod callbacks;
 #[cfg(test)]
+mod cores;
+#[cfg(test)]
 mod packed;
+#[cfg(test)]
+mod questions;
+#[cfg(test)]
+mod schedules;
+#[cfg(test)]
+mod steps;
 #[cfg(test)]
 mod windows;
