@@ -15,7 +15,7 @@ lines="$folder/streams/kafka/lines/0.log"
 echo "1. Copying examples/word_count to $folder"
 cp -r "$top/examples/word_count" "$folder"
 
-echo "2. Proving and building the program, and running it on the folder. From nothing this takes some 13 minutes on four"
+echo "2. Proving and building the program, and running it on the folder. From nothing this takes 13 to 21 minutes on four"
 echo "   processors, for all that the program is made of is proved first; later a few seconds. What is proved stands in"
 echo "   $folder.build"
 (cd "$top/crates/samza_run" && rt run -- run "$folder") > "$folder.build" 2>&1 || { tail -n 20 "$folder.build"; exit 1; }
