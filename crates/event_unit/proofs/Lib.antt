@@ -1,2 +1,4 @@
 mod Knowing
+mod Opening
 mod Planning
+mod Refusing

@@ -9,7 +9,7 @@ use Rattle.topic_log.specs.Opened.{count_of}
 use Rattle.unit_logs.specs.declared.writing.Logs.{Logs}
 use Rattle.unit_logs.specs.Planned.{PlansCommit, lens_of}
 use Rattle.unit_logs.specs.Standing.{IsSetUp}
-use Rattle.unit_steps.proofs.Keeping.{one_start}
+use Rattle.unit_steps.proofs.Laws.{one_start}
 
 pub plans_commit : (u : CoreValue) (logs : Logs) (lens : List ℕ) (plan : Plan) → IsCore u → IsSetUp u.setup → lens ≡ lens_of logs.changelogs.items → u.last ≡ count_of logs.marks
     → IsPlan u lens plan → PlansCommit u.setup logs u.held (lane_at u.lanes 0).low plan.frames plan.mark

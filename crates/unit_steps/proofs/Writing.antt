@@ -29,8 +29,8 @@ use Rattle.unit_steps.proofs.Committing.{with_commit, with_begun, AtRest, begins
 use Rattle.unit_steps.proofs.Keeping.{one_start}
 
 -- the logs are open, whatever is held
-opened : (reads : Image) (images : Image → Type 0) (s : Setup) (logs : Logs) (mark : Option Checkpoint) (h : Held) → OnDisk reads images s logs mark h → OpenOnDisk reads images s logs mark
-opened reads images s logs mark h on = record {
+pub open_whatever : (reads : Image) (images : Image → Type 0) (s : Setup) (logs : Logs) (mark : Option Checkpoint) (h : Held) → OnDisk reads images s logs mark h → OpenOnDisk reads images s logs mark
+open_whatever reads images s logs mark h on = record {
   marks = on.marks;
   stores = λ i d lt. let o = on.stores i d lt in record { frames = o.frames; is_open = o.is_open; enough = o.enough };
   outputs = on.outputs;
@@ -120,25 +120,13 @@ module _ {P D S : Type 0} (meaning : P → Meaning) (tells : Type 0) (reads : D 
               counted = λ _. one_more ∙ sym p.id_is;
               last = commits_core.last ∙ ap (λ n. n + 1) inv.last ∙ sym id_is;
               on_disk = λ _ told. subst (λ (s : Setup). OpenOnDisk (reads disk) (images disk) s logs' (Some made)) same
-                  (opened (reads disk) (images disk) old.core.setup logs' (Some made) old.core.held
+                  (open_whatever (reads disk) (images disk) old.core.setup logs' (Some made) old.core.held
                   (stands_made old.core.setup (reads old.disk) (reads disk) (images old.disk) (images disk) logs logs' plan (last_mark old.marks) (lane_at old.core.lanes 0).low made old.core.held (on_disk_now told) (follows told) p
                   inv.changelogs_are inv.outputs_are outputs_are core.sized old.core.held core.sized refl));
               outside = inv.outside;
               history = with_mark inv.history;
               stands = finished.history inv.outside inv.history inv.stands;
             }
-
-none_left : {X : Type 0} (xs : List X) → length xs ≤ 0 → xs ≡ []
-none_left [] le = refl
-none_left (x ∷ xs) le = absurd (omega (arith, le))
-
-no_some : {X : Type 0} (o : Option X) → is_some o ≡ false → o ≡ None
-no_some None e = refl
-no_some (Some x) e = absurd (broken_now e)
-
--- a core is at rest
-pub at_rest : (u : CoreValue) → (u.setup.async_commit ≡ false → length u.callbacks.flights ≤ 0) → is_some u.failed ≡ false → is_some u.window ≡ false → AtRest u
-at_rest u idle sound closed = record { idle = λ sync. none_left u.callbacks.flights (idle sync); sound = no_some u.failed sound; closed = no_some u.window closed }
 
 -- a mark more
 pub marks_more : (m : KeptMark) (old mid new : List KeptMark) → mid ≡ old → new ≡ mid ++ m ∷ [] → m ∷ reverse old ≡ reverse new

@@ -53,6 +53,10 @@ pub record Stands {P D S : Type 0} (meaning : P → Meaning) (tells : Type 0) (r
   pub sound : u.broken ≡ false → u.begun ≡ None
   pub prompt : u.core.setup.async_commit ≡ false → IsPrompt t.since × ArePrompt t.parts
 
+-- of a unit that was just opened: the files at the opening, and no events
+abbrev pub opened_history : Image → History
+opened_history before = record { before = before; since = []; parts = [] }
+
 -- what was given at the opening
 pub record SameGiven {P D S : Type 0} (old new : UnitValue P D S) : Type 0 where
   pub job : new.job ≡ old.job

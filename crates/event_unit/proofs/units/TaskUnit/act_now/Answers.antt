@@ -3,9 +3,7 @@ use Rattle.samza_model.specs.Events.{flight_of}
 use Rattle.task_core.specs.declared.faults.ActFault.TheVariants.{Unknown}
 use Rattle.event_unit.specs.Acts.{act_event}
 use Rattle.unit_steps.specs.Units.{UnitValue, Adds}
-use Rattle.unit_steps.proofs.Acting.{acted}
-use Rattle.unit_steps.proofs.Adding.{with_core}
-use Rattle.unit_steps.proofs.Keeping.{keeps_unit}
+use Rattle.unit_steps.proofs.Laws.{acted, keeps_unit, with_core}
 use Rattle.event_unit.proofs.Knowing.{known, ok_alone}
 use Rattle.event_unit.proofs.units.TaskUnit.act_now.Goals as goal
 

@@ -3,9 +3,7 @@ use Rattle.samza_model.specs.Events.{flight_of}
 use Rattle.task_core.specs.Acting.{next_act, next_in_window, ActsOn, ActsInWindow}
 use Rattle.event_unit.specs.Acts.{act_event, window_act_event}
 use Rattle.unit_steps.specs.Units.{UnitValue, Adds}
-use Rattle.unit_steps.proofs.Acting.{acted, acted_in_window}
-use Rattle.unit_steps.proofs.Adding.{with_core}
-use Rattle.unit_steps.proofs.Keeping.{keeps_unit}
+use Rattle.unit_steps.proofs.Laws.{acted, acted_in_window, keeps_unit, with_core}
 use Rattle.event_unit.proofs.Knowing.{turn_of}
 use Rattle.event_unit.proofs.units.TaskUnit.apply.Goals as goal
 

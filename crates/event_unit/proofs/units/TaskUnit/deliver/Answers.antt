@@ -2,9 +2,7 @@ use Rattle.std.proofs.Common.{◌≡◌, ◌<◌, ◌∙◌, ap, sym, subst, ref
 use Rattle.samza_model.specs.Requests.{due_by}
 use Rattle.core_steps.specs.Cores.{next_at, deliver_event}
 use Rattle.unit_steps.specs.Units.{UnitValue, Adds}
-use Rattle.unit_steps.proofs.Adding.{with_core}
-use Rattle.unit_steps.proofs.Delivering.{delivered}
-use Rattle.unit_steps.proofs.Keeping.{keeps_unit}
+use Rattle.unit_steps.proofs.Laws.{delivered, keeps_unit, with_core}
 use Rattle.event_unit.proofs.units.TaskUnit.deliver.Goals as goal
 
 pub invariant_of-self-2 : goal.invariant_of-self-2

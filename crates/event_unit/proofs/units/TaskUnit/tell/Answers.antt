@@ -1,7 +1,6 @@
 use Rattle.std.proofs.Common.{reverse, subst}
 use Rattle.unit_steps.specs.Units.{UnitValue, Keeps}
-use Rattle.unit_steps.proofs.Adding.{keeps, with_core}
-use Rattle.unit_steps.proofs.Keeping.{stays_unit}
+use Rattle.unit_steps.proofs.Laws.{keeps, stays_unit, with_core}
 use Rattle.event_unit.proofs.units.TaskUnit.tell.Goals as goal
 
 pub invariant_of-self : goal.invariant_of-self
