@@ -7,5 +7,5 @@ mod units;
 
 pub use committing::Mark;
 pub use task_core::{ActFault, Applied, Ask, Question, QuestionFault};
-pub use units::TaskUnit;
 pub use unit_logs::CommitFault;
+pub use units::TaskUnit;
