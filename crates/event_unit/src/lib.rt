@@ -13,5 +13,5 @@ pub use task_core::{
     ActFault, Applied, ApplyFault, Ask, DeliverFault, LaneState, Question, QuestionFault, Status, Stepped,
     step,
 };
-pub use units::TaskUnit;
 pub use unit_logs::CommitFault;
+pub use units::TaskUnit;

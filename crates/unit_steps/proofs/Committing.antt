@@ -69,7 +69,7 @@ module _ {P D S : Type 0} (meaning : P → Meaning) (tells : Type 0) (reads : D 
     (old : UnitValue P D S) (disk : D) (made : Checkpoint) (one : length old.core.starts ≡ 1) (sound : old.broken ≡ false)
     (here : tells → images old.disk (reads old.disk))
     (run : tells → (contents : List Content) → Restores old.core.setup (reads old.disk) (last_mark old.marks) contents
-        → LeavesOnly number images since old.disk disk (λ a c. LeavesMade old.core.setup (reads old.disk) a c (last_mark old.marks) contents (lane_at old.core.lanes 0).low (state_of old.core.held) (unlogged_of old.core.held.stores) made)) where
+    → LeavesOnly number images since old.disk disk (λ a c. LeavesMade old.core.setup (reads old.disk) a c (last_mark old.marks) contents (lane_at old.core.lanes 0).low (state_of old.core.held) (unlogged_of old.core.held.stores) made)) where
   module _ (o : Outside) (t : History) (s : Stands meaning tells reads number images since o old t) where
     crash_none : tells → ImagesStand number images since old.disk (given o old.core) t old.marks None
     crash_none told = subst (λ (b : Option ℕ). ImagesStand number images since old.disk (given o old.core) t old.marks b) (s.sound sound) (s.crash told)

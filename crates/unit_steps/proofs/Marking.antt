@@ -124,6 +124,7 @@ files_made k t held marks reads reads' mark next at made is files c = record {
   where
     take_whole : (records : List Record) (n : ℕ) → length records ≤ n → foldrec (take n records) ≡ foldrec records
     take_whole records n le = ap foldrec (take_all n records le)
+
     contents : (n i : ℕ) (m : KeptMark) → slice_get (record { checkpoint = Some made; at = at } ∷ marks) n ≡ Some m → i < length k.setup.stores
         → HoldsContent (reads' (store_file m.checkpoint i)) (count_at m.checkpoint i) (store_at (state_after k.state (all_of (drop n (t.since ∷ t.parts)))).stores i)
     contents zero i m e lt =
@@ -146,11 +147,11 @@ module _ {D : Type 0} (number : D → ℕ) (images : D → Image → Type 0) (si
   -- what a read gives restores to the last mark
   pub last_from : (m : KeptMark) × (slice_get marks 0 ≡ Some m) × RestoresTo k t.before reads m.checkpoint (marked t)
   last_from = elim (before.here reads here) [
-        | inl from ↦
-            let zero_is : from.place ≡ 0 = omega (arith, from.newer) in
-            (from.mark, subst (λ n. slice_get marks n ≡ Some from.mark) zero_is from.is, subst (λ n. RestoresTo k t.before reads from.mark.checkpoint (all_of (drop n t.parts))) zero_is from.to)
-        | inr none ↦ absurd none
-      ]
+    | inl from ↦
+        let zero_is : from.place ≡ 0 = omega (arith, from.newer) in
+        (from.mark, subst (λ n. slice_get marks n ≡ Some from.mark) zero_is from.is, subst (λ n. RestoresTo k t.before reads from.mark.checkpoint (all_of (drop n t.parts))) zero_is from.to)
+    | inr none ↦ absurd none
+  ]
 
   pub restored : Restores k.setup reads (last_mark marks) (state_after k.state (marked t)).stores
   restored =
@@ -164,7 +165,10 @@ module _ {D : Type 0} (number : D → ℕ) (images : D → Image → Type 0) (si
   uncommitted n c un =
       let l = last_from in
       record {
-        place = 0; mark = l.0; newer = omega arith; is = l.1;
+        place = 0;
+        mark = l.0;
+        newer = omega arith;
+        is = l.1;
         to = subst (λ (m : Option Checkpoint). RestoresTo k t.before c m (marked t)) (last_is marks l.0 l.1) (old_restores k t held is marks reads files (last_mark marks) next c un);
       }
 
@@ -189,11 +193,13 @@ module _ {D : Type 0} (number : D → ℕ) (images : D → Image → Type 0) (si
   images_begun counts run = record {
     each = λ n m at.
         let was = before.each n m at in
-        let on : number old ≤ number new = run.later in
-        (omega (arith, was.0, on), λ c left. elim (run.before m.at c was.0 left) [
-          | inl past ↦ elim (was.1 c past) [ inl from ↦ inl from | inr none ↦ absurd none ]
-          | inr p ↦ elim p.2.1 [ inl un ↦ inl (uncommitted n c un) | inr is_made ↦ inr (begun_at c is_made) ]
-        ]);
+        let on : number old ≤ number new = run.later in (
+          omega (arith, was.0, on),
+          λ c left. elim (run.before m.at c was.0 left) [
+            | inl past ↦ elim (was.1 c past) [ inl from ↦ inl from | inr none ↦ absurd none ]
+            | inr p ↦ elim p.2.1 [ inl un ↦ inl (uncommitted n c un) | inr is_made ↦ inr (begun_at c is_made) ]
+          ],
+        );
     here = λ c now. elim (run.each c (counts c now)).2.1 [ inl un ↦ inl (uncommitted 0 c un) | inr is_made ↦ inr (begun_at c is_made) ];
   }
 
@@ -222,8 +228,10 @@ module _ {D : Type 0} (number : D → ℕ) (images : D → Image → Type 0) (si
           (omega arith, λ c left. inl (newest 0 c (done c (only c left))))
       each_of only run done (suc n) m at =
           let was = before.each n m at in
-          let on : number old ≤ number new = run.later in
-          (omega (arith, was.0, on), λ c left. elim (run.before m.at c was.0 left) [
-            | inl past ↦ elim (was.1 c past) [ inl from ↦ inl (shifted n c from) | inr none ↦ absurd none ]
-            | inr p ↦ elim p.2.1 [ inl un ↦ inl (shifted n c (uncommitted n c un)) | inr is_made ↦ inl (newest (suc n) c is_made) ]
-          ])
+          let on : number old ≤ number new = run.later in (
+            omega (arith, was.0, on),
+            λ c left. elim (run.before m.at c was.0 left) [
+              | inl past ↦ elim (was.1 c past) [ inl from ↦ inl (shifted n c from) | inr none ↦ absurd none ]
+              | inr p ↦ elim p.2.1 [ inl un ↦ inl (shifted n c (uncommitted n c un)) | inr is_made ↦ inl (newest (suc n) c is_made) ]
+            ],
+          )
