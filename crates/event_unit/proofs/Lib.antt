@@ -1,4 +1,4 @@
+mod Handed
 mod Knowing
-mod Opening
 mod Planning
 mod Refusing

@@ -5,6 +5,7 @@ mod acting;
 mod applying;
 mod committing;
 mod delivering;
+mod opening;
 mod telling;
 mod units;
 
@@ -14,4 +15,5 @@ pub use task_core::{
     step,
 };
 pub use unit_logs::CommitFault;
+pub use unit_opening::OpenFault;
 pub use units::TaskUnit;
