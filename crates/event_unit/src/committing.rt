@@ -115,7 +115,8 @@ impl<'j, J: Job, D: Disk, S: Shelf> TaskUnit<'j, J, D, S> {
             → Begins J.meaning D.tells D.reads D.call_number D.images D.images_since
             self.old self.new) }
         ensures refused { IfErr result (λ e. e ≢ CommitFault.Device → self.new ≡ self.old) }
-        ensures first { (e : CommitFaultValue) → commit_refusal self.old.broken self.old.core ≡ Some e
+        ensures first { (e : CommitFaultValue) → commit_refusal self.old.broken self.old.core
+            ≡ Some e
             → result ≡ Err e }
         ensures others { commit_refusal self.old.broken self.old.core ≡ None
             → IfErr result (λ e. (e ≡ CommitFault.NoMemory) ⊎ ((e ≡ CommitFault.Limit)
@@ -137,7 +138,9 @@ impl<'j, J: Job, D: Disk, S: Shelf> TaskUnit<'j, J, D, S> {
             Err(fault) => return Err(fault),
         }
         let Plan {
-            mark: made, kept, ..
+            mark: made,
+            kept,
+            ..
         } = plan;
         let mark = Mark { id: made.id };
         let at = self.disk.calls();

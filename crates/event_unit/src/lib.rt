@@ -11,8 +11,8 @@ mod units;
 
 pub use committing::Mark;
 pub use task_core::{
-    ActFault, Applied, ApplyFault, Ask, DeliverFault, LaneState, Question, QuestionFault, Status, Stepped,
-    step,
+    ActFault, Applied, ApplyFault, Ask, DeliverFault, LaneState, Question, QuestionFault, Status,
+    Stepped, step,
 };
 pub use unit_logs::CommitFault;
 pub use unit_opening::OpenFault;

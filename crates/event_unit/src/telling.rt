@@ -2,13 +2,14 @@
 ghost use Rattle.std.specs.Prelude.{◌≡◌, ◌↔◌, ◌<◌, ◌≤◌, ℕ, length, Some, None, IfSome, slice_get};
 ghost use Rattle.std.specs.FinMap as map;
 ghost use Rattle.callback_manager.specs.Callbacks.{numbers};
-ghost use Rattle.core_steps.specs.Cores.{with_times};
+ghost use Rattle.core_steps.specs.Cores.{IsCore, with_times};
 ghost use Rattle.core_steps.specs.Held.{tracked_at};
 ghost use Rattle.output_log.specs.Outputs.{sent_count};
 ghost use Rattle.samza_model.specs.Marks.{last_mark};
 ghost use Rattle.samza_model.specs.Restored.{id_of};
 ghost use Rattle.task_core.specs.Seen.{lane_state, sent_of};
 ghost use Rattle.task_core.specs.Telling.{status_of};
+ghost use Rattle.unit_logs.specs.Standing.{IsSetUp};
 ghost use Rattle.unit_steps.specs.Units.{Keeps};
 ghost use Rattle.window_timer.specs.Times.{told, marked_due};
 
@@ -87,8 +88,11 @@ impl<'j, J: Job, D: Disk, S: Shelf> TaskUnit<'j, J, D, S> {
 
     /// The setup that the unit was opened with.
     pub fn setup(&self) -> &Setup
-        ensures { result.now ≡ self.now.core.setup }
+        ensures setup { result.now ≡ self.now.core.setup }
+        ensures set_up { IsSetUp self.now.core.setup }
+        ensures core { IsCore self.now.core }
     {
+        let _number = self.core.number();
         self.core.setup()
     }
 

@@ -23,6 +23,10 @@ fn turns_are_picked_by_their_rule(rt: HostRuntime) -> Result<(), Fail> {
     is_same(&rt, picks(&mut Last), [2, 0, 3, 1]);
     let mut listed = Listed::new(Vec::from_slice(rt.alloc(), &[5, 7, 2])?);
     is_same(&rt, picks(&mut listed), [2, 0, 2, 0]);
-    is_same(&rt, picks(&mut Seeded::new(42)), picks(&mut Seeded::new(42)));
+    is_same(
+        &rt,
+        picks(&mut Seeded::new(42)),
+        picks(&mut Seeded::new(42)),
+    );
     Ok(())
 }

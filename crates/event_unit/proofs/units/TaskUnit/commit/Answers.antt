@@ -39,7 +39,7 @@ invariant_of-self-in-Err g c =
     let plan = c.in_ok-plan.plan in
     let p = c.in_ok-plan.ensures.planned in
     let same : with_begun old c.write.new.disk (length u.core.since) ≡ record { job = old.job; shelf = old.shelf; messages = old.messages; core = u.core; disk = c.write.new.disk; marks = reverse c.make_room.new.marks.items; begun = Some c.events.result; broken = true } =
-        λ i. record { job = old.job; shelf = old.shelf; messages = old.messages; core = u.core; disk = c.write.new.disk; marks = reverse (sym c.make_room.ensures.same i); begun = Some (sym c.events.ensures i); broken = true } in
+    λ i. record { job = old.job; shelf = old.shelf; messages = old.messages; core = u.core; disk = c.write.new.disk; marks = reverse (sym c.make_room.ensures.same i); begun = Some (sym c.events.ensures i); broken = true } in
     subst (λ v. IsUnit g.J.Job.meaning disk.tells disk.reads disk.call_number disk.images disk.images_since c.write.new.self v) same
     (unfinished_unit g.J.Job.meaning disk.tells disk.reads disk.call_number disk.images disk.images_since old u.logs c.self.invariant c.plan_of.ensures.core sound c.write.new.disk plan.frames plan.mark p (law.read_is_image u.disk) c.write.ensures.any_moment c.write.new.self c.in-Err.ensures.changelogs c.in-Err.ensures.outputs (λ told later image now. law.counts_now c.write.new.disk (disk.call_number u.disk) image told later now))
 
@@ -54,7 +54,7 @@ returns-in-Err-clause-begun g c = λ _.
     let plan = c.in_ok-plan.plan in
     let p = c.in_ok-plan.ensures.planned in
     let same : with_begun old c.write.new.disk (length u.core.since) ≡ record { job = old.job; shelf = old.shelf; messages = old.messages; core = u.core; disk = c.write.new.disk; marks = reverse c.make_room.new.marks.items; begun = Some c.events.result; broken = true } =
-        λ i. record { job = old.job; shelf = old.shelf; messages = old.messages; core = u.core; disk = c.write.new.disk; marks = reverse (sym c.make_room.ensures.same i); begun = Some (sym c.events.ensures i); broken = true } in
+    λ i. record { job = old.job; shelf = old.shelf; messages = old.messages; core = u.core; disk = c.write.new.disk; marks = reverse (sym c.make_room.ensures.same i); begun = Some (sym c.events.ensures i); broken = true } in
     subst (λ v. Begins g.J.Job.meaning disk.tells disk.reads disk.call_number disk.images disk.images_since c.args.self.now v) same
     (subst (λ v. Begins g.J.Job.meaning disk.tells disk.reads disk.call_number disk.images disk.images_since v (with_begun old c.write.new.disk (length u.core.since))) c.self.view_is
     (unfinished g.J.Job.meaning disk.tells disk.reads disk.call_number disk.images disk.images_since old u.logs c.self.invariant c.plan_of.ensures.core sound c.write.new.disk plan.frames plan.mark p (law.read_is_image u.disk) c.write.ensures.any_moment c.write.new.self c.in-Err.ensures.changelogs c.in-Err.ensures.outputs (λ told later image now. law.counts_now c.write.new.disk (disk.call_number u.disk) image told later now)))
@@ -72,10 +72,17 @@ invariant_of-self-2 g c =
     let after = c.committed.new.self in
     let m : KeptMark = record { checkpoint = Some plan.mark; at = disk.call_number c.write.new.disk } in
     let same : with_commit old c.write.new.disk after m ≡ record { job = old.job; shelf = old.shelf; messages = old.messages; core = after; disk = c.write.new.disk; marks = reverse c.push_reserved.new.self.items; begun = None; broken = false } =
-        λ i. record { job = old.job; shelf = old.shelf; messages = old.messages; core = after; disk = c.write.new.disk;
-          marks = marks_more m u.marks.items c.make_room.new.marks.items c.push_reserved.new.self.items c.make_room.ensures.same
-              (c.push_reserved.ensures.items ∙ ap (λ at. c.make_room.new.marks.items ++ record { checkpoint = Some plan.mark; at = at } ∷ []) c.calls-at.ensures) i;
-          begun = None; broken = false } in
+    λ i. record {
+      job = old.job;
+      shelf = old.shelf;
+      messages = old.messages;
+      core = after;
+      disk = c.write.new.disk;
+      marks = marks_more m u.marks.items c.make_room.new.marks.items c.push_reserved.new.self.items c.make_room.ensures.same
+          (c.push_reserved.ensures.items ∙ ap (λ at. c.make_room.new.marks.items ++ record { checkpoint = Some plan.mark; at = at } ∷ []) c.calls-at.ensures) i;
+      begun = None;
+      broken = false;
+    } in
     subst (λ v. IsUnit g.J.Job.meaning disk.tells disk.reads disk.call_number disk.images disk.images_since c.write.new.self v) same
     (finished_unit g.J.Job.meaning disk.tells disk.reads disk.call_number disk.images disk.images_since old u.logs c.self.invariant c.plan_of.ensures.core sound c.write.new.disk plan.frames plan.mark p (law.read_is_image u.disk) c.write.ensures.any_moment c.write.new.self c.in-Ok.ensures.changelogs c.in-Ok.ensures.outputs after c.committed.ensures.commits (at_rest u.broken u.core allowed) (λ told image left. law.only_now c.write.new.disk image told left) (law.read_is_image c.write.new.disk) c.in-Ok.ensures.follows c.in-Ok.ensures.sound (c.in-Ok.ensures.counted ∙ ap (λ n. count_of u.logs.marks + n) p.frame.2.count_is))
 
@@ -92,14 +99,20 @@ returns-clause-marked g c =
     let after = c.committed.new.self in
     let m : KeptMark = record { checkpoint = Some plan.mark; at = disk.call_number c.write.new.disk } in
     let same : with_commit old c.write.new.disk after m ≡ record { job = old.job; shelf = old.shelf; messages = old.messages; core = after; disk = c.write.new.disk; marks = reverse c.push_reserved.new.self.items; begun = None; broken = false } =
-        λ i. record { job = old.job; shelf = old.shelf; messages = old.messages; core = after; disk = c.write.new.disk;
-          marks = marks_more m u.marks.items c.make_room.new.marks.items c.push_reserved.new.self.items c.make_room.ensures.same
-              (c.push_reserved.ensures.items ∙ ap (λ at. c.make_room.new.marks.items ++ record { checkpoint = Some plan.mark; at = at } ∷ []) c.calls-at.ensures) i;
-          begun = None; broken = false } in
-    (
+    λ i. record {
+      job = old.job;
+      shelf = old.shelf;
+      messages = old.messages;
+      core = after;
+      disk = c.write.new.disk;
+      marks = marks_more m u.marks.items c.make_room.new.marks.items c.push_reserved.new.self.items c.make_room.ensures.same
+          (c.push_reserved.ensures.items ∙ ap (λ at. c.make_room.new.marks.items ++ record { checkpoint = Some plan.mark; at = at } ∷ []) c.calls-at.ensures) i;
+      begun = None;
+      broken = false;
+    } in (
       plan.mark,
       refl,
       subst (λ v. Marks g.J.Job.meaning disk.tells disk.reads disk.call_number disk.images disk.images_since c.args.self.now v plan.mark) same
-      (subst (λ v. Marks g.J.Job.meaning disk.tells disk.reads disk.call_number disk.images disk.images_since v (with_commit old c.write.new.disk after m) plan.mark) c.self.view_is
-      (finished g.J.Job.meaning disk.tells disk.reads disk.call_number disk.images disk.images_since old u.logs c.self.invariant c.plan_of.ensures.core sound c.write.new.disk plan.frames plan.mark p (law.read_is_image u.disk) c.write.ensures.any_moment c.write.new.self c.in-Ok.ensures.changelogs c.in-Ok.ensures.outputs after c.committed.ensures.commits (at_rest u.broken u.core allowed) (λ told image left. law.only_now c.write.new.disk image told left) (law.read_is_image c.write.new.disk) c.in-Ok.ensures.follows c.in-Ok.ensures.sound (c.in-Ok.ensures.counted ∙ ap (λ n. count_of u.logs.marks + n) p.frame.2.count_is))),
+          (subst (λ v. Marks g.J.Job.meaning disk.tells disk.reads disk.call_number disk.images disk.images_since v (with_commit old c.write.new.disk after m) plan.mark) c.self.view_is
+          (finished g.J.Job.meaning disk.tells disk.reads disk.call_number disk.images disk.images_since old u.logs c.self.invariant c.plan_of.ensures.core sound c.write.new.disk plan.frames plan.mark p (law.read_is_image u.disk) c.write.ensures.any_moment c.write.new.self c.in-Ok.ensures.changelogs c.in-Ok.ensures.outputs after c.committed.ensures.commits (at_rest u.broken u.core allowed) (λ told image left. law.only_now c.write.new.disk image told left) (law.read_is_image c.write.new.disk) c.in-Ok.ensures.follows c.in-Ok.ensures.sound (c.in-Ok.ensures.counted ∙ ap (λ n. count_of u.logs.marks + n) p.frame.2.count_is))),
     )

@@ -20,11 +20,11 @@ invariant_of-result g c =
     let begun = c.in-Ok-begin.ensures in
     let new = c.open_task.new.disk in
     let handed : Handed disk.tells disk.reads disk.images s task.tables (disk.reads c.args.disk) new task.mark =
-        record { restored = ok.restored; durable = ok.durable; stay = ok.logs_durable; whole = ok.whole } in
+    record { restored = ok.restored; durable = ok.durable; stay = ok.logs_durable; whole = ok.whole } in
     let job = g.J.Job.plain c.args.job.now in
     let shelf = c.open_task.new.shelf in
     let marks : record { checkpoint = task.mark; at = disk.call_number new } ∷ [] ≡ reverse b.marks.items =
-        sym (ap reverse (begun.parts.2 ∙ ap (λ at. record { checkpoint = task.mark; at = at } ∷ []) c.calls.ensures)) in
+    sym (ap reverse (begun.parts.2 ∙ ap (λ at. record { checkpoint = task.mark; at = at } ∷ []) c.calls.ensures)) in
     let logs = begun.parts.0 in
     subst (λ v. IsUnit g.J.Job.meaning disk.tells disk.reads disk.call_number disk.images disk.images_since b.logs v) (λ i. record { job = job; shelf = shelf; messages = b.messages.items; core = b.core; disk = new; marks = marks i; begun = None; broken = false })
     (opened_unit g.J.Job.meaning disk.tells disk.reads disk.call_number disk.images disk.images_since job shelf b.messages.items b.core new task.mark (disk.reads c.args.disk) s task.tables begun.given.setup begun.stands begun.fresh.since handed (law.read_is_image new) (λ told image left. law.only_now new image told left) b.logs c.requires.set_up
@@ -43,10 +43,10 @@ returns-in-Ok-begin-clause-stands g c = λ o of_job parts state.
     let begun = c.in-Ok-begin.ensures in
     let new = c.open_task.new.disk in
     let handed : Handed disk.tells disk.reads disk.images s task.tables (disk.reads c.args.disk) new task.mark =
-        record { restored = ok.restored; durable = ok.durable; stay = ok.logs_durable; whole = ok.whole } in
+    record { restored = ok.restored; durable = ok.durable; stay = ok.logs_durable; whole = ok.whole } in
     let job = g.J.Job.plain c.args.job.now in
     let shelf = c.open_task.new.shelf in
     let marks : record { checkpoint = task.mark; at = disk.call_number new } ∷ [] ≡ reverse b.marks.items =
-        sym (ap reverse (begun.parts.2 ∙ ap (λ at. record { checkpoint = task.mark; at = at } ∷ []) c.calls.ensures)) in
+    sym (ap reverse (begun.parts.2 ∙ ap (λ at. record { checkpoint = task.mark; at = at } ∷ []) c.calls.ensures)) in
     subst (λ v. Stands g.J.Job.meaning disk.tells disk.reads disk.call_number disk.images disk.images_since o v (opened_history (disk.reads c.args.disk))) (λ i. record { job = job; shelf = shelf; messages = b.messages.items; core = b.core; disk = new; marks = marks i; begun = None; broken = false })
     (stands_opened g.J.Job.meaning disk.tells disk.reads disk.call_number disk.images disk.images_since job shelf b.messages.items b.core new task.mark (disk.reads c.args.disk) s task.tables begun.given.setup begun.stands begun.fresh.since handed (law.read_is_image new) (λ told image left. law.only_now new image told left) o of_job parts (state ∙ ap (fresh s) begun.contents))
