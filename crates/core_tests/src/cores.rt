@@ -66,7 +66,7 @@ fn only<T: Drop>(alloc: Global, item: T) -> Result<Items<T>, NoMemory>
 }
 
 /// The setup of the task: one input, one store and one output, and a commit each 100 milliseconds.
-fn setup(alloc: Global, shape: Shape) -> Result<Setup, NoMemory>
+pub(crate) fn setup(alloc: Global, shape: Shape) -> Result<Setup, NoMemory>
     ensures runnable { IfOk result IsRunnable }
     ensures inputs { IfOk result (λ s. length s.inputs ≡ 1) }
     ensures stores { IfOk result (λ s. length s.stores ≡ 1) }

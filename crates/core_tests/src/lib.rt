@@ -1,5 +1,5 @@
-//! Worked examples of a task's parts in memory: windows of offsets, callbacks in flight, packed events, and the core that they
-//! make. What is wanted was found by hand.
+//! Worked examples of a task's parts in memory: windows of offsets, callbacks in flight, packed events, the core that they make,
+//! and the unit over a disk. What is wanted was found by hand.
 #![tactic(auto)]
 
 #[cfg(test)]
@@ -14,5 +14,9 @@ mod questions;
 mod schedules;
 #[cfg(test)]
 mod steps;
+#[cfg(test)]
+mod unit_calls;
+#[cfg(test)]
+mod units;
 #[cfg(test)]
 mod windows;
