@@ -1,3 +1,4 @@
+mod Growing
 mod Handed
 mod Knowing
 mod Planning

@@ -1,11 +1,17 @@
--- When a unit commits.
+-- When a unit commits, and when its files are too full for it.
 use Rattle.std.specs.Prelude.{ℕ, List, [], ◌∷◌, length, Option, Some, None, Bool, true, false}
 use Rattle.core_steps.specs.Cores.{CoreValue}
+use Rattle.core_steps.specs.Lanes.{lane_at}
 use Rattle.unit_logs.specs.declared.faults.CommitFault.{CommitFault}
 use Rattle.unit_logs.specs.declared.faults.CommitFault.TheVariants.{Failed, Broken, Windowing, Busy}
 use Rattle.samza_model.specs.declared.turns.Failure.{Failure}
 use Rattle.samza_model.specs.declared.acts.Answer.{Answer}
 use Rattle.samza_model.specs.declared.flights.Flight.{Flight}
+use Rattle.samza_model.specs.Files.{Image}
+use Rattle.samza_model.specs.Marks.{last_mark}
+use Rattle.unit_logs.specs.Growth.{PassesLimit}
+use Rattle.unit_logs.specs.Unlogged.{unlogged_of}
+use Rattle.unit_steps.specs.Units.{UnitValue}
 
 -- callbacks are in flight, where none may be
 abbrev pub busy_by : Bool → List Flight → Option CommitFault
@@ -30,3 +36,7 @@ failed_by None rest = rest
 abbrev pub commit_refusal : Bool → CoreValue → Option CommitFault
 commit_refusal broken u =
     failed_by u.failed (broken_by broken (window_by u.window (busy_by u.setup.async_commit u.callbacks.flights)))
+
+-- one of the files to which a commit would append something would pass 2^40 bytes by it
+abbrev pub CommitPasses : {P D S : Type 0} → UnitValue P D S → Image → Type 0
+CommitPasses u image = PassesLimit u.core.setup image (last_mark u.marks) (lane_at u.core.lanes 0).low (unlogged_of u.core.held.stores) u.core.held.unsent

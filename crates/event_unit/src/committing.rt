@@ -2,6 +2,10 @@
 ghost use Rattle.std.specs.Prelude.{◌≡◌, ◌≢◌, ◌≤◌, ◌⊎◌, ◌+◌, ◌<◌, ◌^◌, ℕ, [], List, length, true, false, Some, None, IfOk, Err, IfErr, OnOk, OnErr, vec_len, vec_capacity};
 ghost use Rattle.samza_model.specs.declared.checkpoints.Checkpoint.{Checkpoint as CheckpointValue};
 ghost use Rattle.samza_model.specs.Counters.{Rose};
+ghost use Rattle.samza_model.specs.Marks.{last_mark};
+ghost use Rattle.samza_model.specs.Restored.{next_at};
+ghost use Rattle.disk_model.specs.Images.{LeavesOnly};
+ghost use Rattle.restore_trim.specs.Standing.{OthersStay};
 ghost use Rattle.core_steps.specs.Cores.{IsCore};
 ghost use Rattle.core_steps.specs.Lanes.{lane_at};
 ghost use Rattle.task_core.specs.Plans.{IsKept};
@@ -10,7 +14,7 @@ ghost use Rattle.unit_logs.specs.Planned.{PlansCommit};
 ghost use Rattle.unit_logs.specs.Standing.{IsSetUp};
 ghost use Rattle.unit_logs.specs.Written.{LacksRoomFor, Reaches};
 ghost use Rattle.unit_logs.specs.declared.faults.CommitFault.{CommitFault as CommitFaultValue};
-ghost use Rattle.event_unit.specs.Committing.{commit_refusal};
+ghost use Rattle.event_unit.specs.Committing.{commit_refusal, CommitPasses};
 ghost use Rattle.unit_steps.specs.Units.{Marks, Begins};
 
 use crate::units::TaskUnit;
@@ -121,6 +125,22 @@ impl<'j, J: Job, D: Disk, S: Shelf> TaskUnit<'j, J, D, S> {
         ensures others { commit_refusal self.old.broken self.old.core ≡ None
             → IfErr result (λ e. (e ≡ CommitFault.NoMemory) ⊎ ((e ≡ CommitFault.Limit)
             ⊎ (e ≡ CommitFault.Device))) }
+        ensures covers { OnOk result (next_at (last_mark self.new.marks) 0
+            ≡ Some (lane_at self.old.core.lanes 0).low) }
+        // `Limit` comes where a file would pass 2^40 bytes, and nothing is written where one would.
+        ensures limit { IfErr result (λ e. e ≡ CommitFault.Limit → D.tells
+            → CommitPasses self.old (D.reads self.old.disk)) }
+        ensures tested { IfErr result (λ e. e ≡ CommitFault.Device → D.tells
+            → CommitPasses self.old (D.reads self.old.disk) → ⊥) }
+        ensures room { OnOk result (D.tells → CommitPasses self.old (D.reads self.old.disk) → ⊥) }
+        // The files that are none of the task's are as before, and in each image at any moment.
+        ensures others_stay { OnOk result (D.tells
+            → OthersStay (length self.old.core.setup.stores) (length self.old.core.setup.outputs)
+            (D.reads self.old.disk) (D.reads self.new.disk)) }
+        ensures others_any_moment { D.tells
+            → LeavesOnly D.call_number D.images D.images_since self.old.disk self.new.disk
+            (OthersStay (length self.old.core.setup.stores)
+            (length self.old.core.setup.outputs)) }
         ensures device { IfErr result (λ e. e ≡ CommitFault.Device
             → Rose (D.fault_count self.old.disk) (D.fault_count self.new.disk)) }
         ensures later { D.fault_count self.old.disk ≤ D.fault_count self.new.disk }

@@ -5,4 +5,4 @@ pub use Rattle.unit_steps.proofs.Committing.{AtRest, with_begun, with_commit}
 pub use Rattle.unit_steps.proofs.Delivering.{delivered}
 pub use Rattle.unit_steps.proofs.Keeping.{keeps_unit, one_start, stays_unit}
 pub use Rattle.unit_steps.proofs.Opening.{OpensAt, opened_stands}
-pub use Rattle.unit_steps.proofs.Writing.{finished, finished_unit, marks_more, open_whatever, stand_open_now, unfinished, unfinished_unit}
+pub use Rattle.unit_steps.proofs.Writing.{finished, finished_unit, marks_more, on_disk_now, open_whatever, stand_open_now, unfinished, unfinished_unit}

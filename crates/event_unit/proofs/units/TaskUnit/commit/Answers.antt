@@ -5,6 +5,12 @@ use Rattle.core_steps.proofs.Laws.{few_stores}
 use Rattle.topic_log.specs.Opened.{count_of}
 use Rattle.unit_steps.specs.Units.{UnitValue, Marks, Begins, IsUnit}
 use Rattle.unit_steps.proofs.Laws.{finished, finished_unit, marks_more, stand_open_now, unfinished, unfinished_unit, with_begun, with_commit}
+use Rattle.std.proofs.lemmas.Result.{err_from_is_err_and}
+use Rattle.disk_model.specs.Images.{LeavesOnly}
+use Rattle.restore_trim.specs.Standing.{OthersStay}
+use Rattle.unit_logs.proofs.Laws.{others_still}
+use Rattle.event_unit.specs.Committing.{CommitPasses}
+use Rattle.event_unit.proofs.Growing.{passes, has_room, leaves_others}
 use Rattle.event_unit.proofs.Refusing.{at_rest, unbroken}
 use Rattle.event_unit.proofs.units.TaskUnit.commit.Goals as goal
 
@@ -116,3 +122,63 @@ returns-clause-marked g c =
           (subst (λ v. Marks g.J.Job.meaning disk.tells disk.reads disk.call_number disk.images disk.images_since v (with_commit old c.write.new.disk after m) plan.mark) c.self.view_is
           (finished g.J.Job.meaning disk.tells disk.reads disk.call_number disk.images disk.images_since old u.logs c.self.invariant c.plan_of.ensures.core sound c.write.new.disk plan.frames plan.mark p (law.read_is_image u.disk) c.write.ensures.any_moment c.write.new.self c.in-Ok.ensures.changelogs c.in-Ok.ensures.outputs after c.committed.ensures.commits (at_rest u.broken u.core allowed) (λ told image left. law.only_now c.write.new.disk image told left) (law.read_is_image c.write.new.disk) c.in-Ok.ensures.follows c.in-Ok.ensures.sound (c.in-Ok.ensures.counted ∙ ap (λ n. count_of u.logs.marks + n) p.frame.2.count_is))),
     )
+
+pub returns-in_err-plan-clause-limit : goal.returns-in_err-plan-clause-limit
+returns-in_err-plan-clause-limit g c =
+    let u = c.self.inside in
+    let disk = g.D.Disk in
+    let old : UnitValue _ _ _ = record { job = g.J.Job.plain u.job.now; shelf = u.shelf; messages = u.messages.items; core = u.core; disk = u.disk; marks = reverse u.marks.items; begun = u.begun; broken = u.broken } in
+    let sound : u.broken ≡ false = unbroken u.broken u.core (sym c.refusal.ensures ∙ c.in_default.is) in
+    let p = err_from_is_err_and c.from_residual-in_err-plan.result c.from_residual-in_err-plan.ensures.1 in
+    rw (p.1, p.2)
+    (λ is told.
+    subst (λ v. CommitPasses v (disk.reads v.disk)) c.self.view_is
+    (passes g.J.Job.meaning disk.tells disk.reads disk.call_number disk.images disk.images_since old u.logs c.self.invariant c.plan_of.ensures.core sound told (c.in_err-plan.ensures.limit is)))
+
+pub returns-clause-room : goal.returns-clause-room
+returns-clause-room g c = λ told full.
+    let u = c.self.inside in
+    let disk = g.D.Disk in
+    let old : UnitValue _ _ _ = record { job = g.J.Job.plain u.job.now; shelf = u.shelf; messages = u.messages.items; core = u.core; disk = u.disk; marks = reverse u.marks.items; begun = u.begun; broken = u.broken } in
+    let sound : u.broken ≡ false = unbroken u.broken u.core (sym c.refusal.ensures ∙ c.in_default.is) in
+    let plan = c.in_ok-plan.plan in
+    has_room g.J.Job.meaning disk.tells disk.reads disk.call_number disk.images disk.images_since old u.logs c.self.invariant c.plan_of.ensures.core sound plan.frames plan.mark c.in_ok-plan.ensures.planned c.in_ok-plan.reach c.in_ok-plan.ensures.reaches told
+    (subst (λ v. CommitPasses v (disk.reads v.disk)) (sym c.self.view_is) full)
+
+pub returns-in-Err-clause-tested : goal.returns-in-Err-clause-tested
+returns-in-Err-clause-tested g c = λ _ told full.
+    let u = c.self.inside in
+    let disk = g.D.Disk in
+    let old : UnitValue _ _ _ = record { job = g.J.Job.plain u.job.now; shelf = u.shelf; messages = u.messages.items; core = u.core; disk = u.disk; marks = reverse u.marks.items; begun = u.begun; broken = u.broken } in
+    let sound : u.broken ≡ false = unbroken u.broken u.core (sym c.refusal.ensures ∙ c.in_default.is) in
+    let plan = c.in_ok-plan.plan in
+    has_room g.J.Job.meaning disk.tells disk.reads disk.call_number disk.images disk.images_since old u.logs c.self.invariant c.plan_of.ensures.core sound plan.frames plan.mark c.in_ok-plan.ensures.planned c.in_ok-plan.reach c.in_ok-plan.ensures.reaches told
+    (subst (λ v. CommitPasses v (disk.reads v.disk)) (sym c.self.view_is) full)
+
+pub returns-clause-others_any_moment : goal.returns-clause-others_any_moment
+returns-clause-others_any_moment g c = λ told.
+    let u = c.self.inside in
+    let disk = g.D.Disk in
+    let old : UnitValue _ _ _ = record { job = g.J.Job.plain u.job.now; shelf = u.shelf; messages = u.messages.items; core = u.core; disk = u.disk; marks = reverse u.marks.items; begun = u.begun; broken = u.broken } in
+    let sound : u.broken ≡ false = unbroken u.broken u.core (sym c.refusal.ensures ∙ c.in_default.is) in
+    let plan = c.in_ok-plan.plan in
+    subst (λ v. LeavesOnly disk.call_number disk.images disk.images_since v.disk c.write.new.disk (OthersStay (length v.core.setup.stores) (length v.core.setup.outputs))) c.self.view_is
+    (leaves_others g.J.Job.meaning disk.tells disk.reads disk.call_number disk.images disk.images_since old u.logs c.self.invariant c.plan_of.ensures.core sound plan.frames plan.mark c.in_ok-plan.ensures.planned c.write.new.disk c.write.ensures.any_moment told)
+
+pub returns-in-Err-clause-others_any_moment : goal.returns-in-Err-clause-others_any_moment
+returns-in-Err-clause-others_any_moment g c = λ told.
+    let u = c.self.inside in
+    let disk = g.D.Disk in
+    let old : UnitValue _ _ _ = record { job = g.J.Job.plain u.job.now; shelf = u.shelf; messages = u.messages.items; core = u.core; disk = u.disk; marks = reverse u.marks.items; begun = u.begun; broken = u.broken } in
+    let sound : u.broken ≡ false = unbroken u.broken u.core (sym c.refusal.ensures ∙ c.in_default.is) in
+    let plan = c.in_ok-plan.plan in
+    subst (λ v. LeavesOnly disk.call_number disk.images disk.images_since v.disk c.write.new.disk (OthersStay (length v.core.setup.stores) (length v.core.setup.outputs))) c.self.view_is
+    (leaves_others g.J.Job.meaning disk.tells disk.reads disk.call_number disk.images disk.images_since old u.logs c.self.invariant c.plan_of.ensures.core sound plan.frames plan.mark c.in_ok-plan.ensures.planned c.write.new.disk c.write.ensures.any_moment told)
+
+pub returns-in_err-plan-clause-others_any_moment : goal.returns-in_err-plan-clause-others_any_moment
+returns-in_err-plan-clause-others_any_moment g c = λ told.
+    let u = c.self.inside in
+    let disk = g.D.Disk in
+    let law = (g.met.D.Disk g.world.𝓛 g.world.𝓜 g.world.𝓡 ((λ s x. x), (λ x. x), (λ x. x), λ x. x)) in
+    subst (λ v. LeavesOnly disk.call_number disk.images disk.images_since v.disk u.disk (OthersStay (length v.core.setup.stores) (length v.core.setup.outputs))) c.self.view_is
+    (others_still disk.reads disk.call_number disk.images disk.images_since u.disk (length u.core.setup.stores) (length u.core.setup.outputs) (λ f left. law.only_now u.disk f told left))
