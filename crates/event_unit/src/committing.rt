@@ -3,7 +3,9 @@ ghost use Rattle.std.specs.Prelude.{◌≡◌, ◌≢◌, ◌≤◌, ◌⊎◌, 
 ghost use Rattle.samza_model.specs.declared.checkpoints.Checkpoint.{Checkpoint as CheckpointValue};
 ghost use Rattle.samza_model.specs.Counters.{Rose};
 ghost use Rattle.samza_model.specs.Marks.{last_mark};
-ghost use Rattle.samza_model.specs.Restored.{next_at};
+ghost use Rattle.samza_model.specs.Content.{Content};
+ghost use Rattle.samza_model.specs.Files.{Image};
+ghost use Rattle.samza_model.specs.Restored.{Restores, next_at};
 ghost use Rattle.disk_model.specs.Images.{LeavesOnly};
 ghost use Rattle.restore_trim.specs.Standing.{OthersStay};
 ghost use Rattle.core_steps.specs.Cores.{IsCore};
@@ -14,7 +16,7 @@ ghost use Rattle.unit_logs.specs.Planned.{PlansCommit};
 ghost use Rattle.unit_logs.specs.Standing.{IsSetUp};
 ghost use Rattle.unit_logs.specs.Written.{LacksRoomFor, Reaches};
 ghost use Rattle.unit_logs.specs.declared.faults.CommitFault.{CommitFault as CommitFaultValue};
-ghost use Rattle.event_unit.specs.Committing.{commit_refusal, CommitPasses};
+ghost use Rattle.event_unit.specs.Committing.{commit_refusal, CommitPasses, CrashLeaves, IsCommitOf};
 ghost use Rattle.unit_steps.specs.Units.{Marks, Begins};
 
 use crate::units::TaskUnit;
@@ -32,8 +34,10 @@ pub struct Mark {
 
 /// Why no commit may begin; none where one may.
 fn refusal(broken: bool, core: &Core) -> Option<CommitFault>
-    ensures { result ≡ commit_refusal broken core.now }
+    ensures refusal { result ≡ commit_refusal broken core.now }
+    ensures core { IsCore core.now }
 {
+    let _number = core.number();
     if core.is_failed() {
         return Some(CommitFault::Failed);
     }
@@ -125,6 +129,16 @@ impl<'j, J: Job, D: Disk, S: Shelf> TaskUnit<'j, J, D, S> {
         ensures others { commit_refusal self.old.broken self.old.core ≡ None
             → IfErr result (λ e. (e ≡ CommitFault.NoMemory) ⊎ ((e ≡ CommitFault.Limit)
             ⊎ (e ≡ CommitFault.Device))) }
+        // After Ok every image has the new checkpoint behind the others, and each other log what it appends.
+        ensures durable { OnOk result (D.tells → (made : CheckpointValue)
+            → last_mark self.new.marks ≡ Some made → (c : Image) → D.images self.new.disk c
+            → IsCommitOf self.old (D.reads self.old.disk) c made) }
+        // A crash at any moment leaves the checkpoint before with its contents, or the next one with the unit's.
+        ensures any_moment { D.tells → self.old.broken ≡ false → (contents : List Content)
+            → Restores self.old.core.setup (D.reads self.old.disk) (last_mark self.old.marks)
+            contents
+            → LeavesOnly D.call_number D.images D.images_since self.old.disk self.new.disk
+            (CrashLeaves self.old (D.reads self.old.disk) contents) }
         ensures covers { OnOk result (next_at (last_mark self.new.marks) 0
             ≡ Some (lane_at self.old.core.lanes 0).low) }
         // `Limit` comes where a file would pass 2^40 bytes, and nothing is written where one would.

@@ -1,4 +1,4 @@
-use Rattle.std.proofs.Common.{◌≡◌, ◌≤◌, ◌+◌, ◌∙◌, ◌∷◌, ◌++◌, [], ap, sym, subst, refl, arith, reverse, length, Some, None, true, false}
+use Rattle.std.proofs.Common.{IfSome, ◌≡◌, ◌≤◌, ◌+◌, ◌∙◌, ◌∷◌, ◌++◌, [], ap, sym, subst, refl, arith, reverse, length, Some, None, true, false}
 use Rattle.samza_model.specs.declared.checkpoints.Checkpoint.{Checkpoint}
 use Rattle.samza_model.specs.declared.marks.KeptMark.{KeptMark}
 use Rattle.core_steps.proofs.Laws.{few_stores}
@@ -9,8 +9,10 @@ use Rattle.std.proofs.lemmas.Result.{err_from_is_err_and}
 use Rattle.disk_model.specs.Images.{LeavesOnly}
 use Rattle.restore_trim.specs.Standing.{OthersStay}
 use Rattle.unit_logs.proofs.Laws.{others_still}
-use Rattle.event_unit.specs.Committing.{CommitPasses}
-use Rattle.event_unit.proofs.Growing.{passes, has_room, leaves_others}
+use Rattle.event_unit.specs.Committing.{CommitPasses, CrashLeaves, IsCommitOf}
+use Rattle.samza_model.specs.Restored.{Restores}
+use Rattle.samza_model.specs.Marks.{last_mark}
+use Rattle.event_unit.proofs.Growing.{has_room, is_commit, leaves_others, leaves_some, leaves_still, passes}
 use Rattle.event_unit.proofs.Refusing.{at_rest, unbroken}
 use Rattle.event_unit.proofs.units.TaskUnit.commit.Goals as goal
 
@@ -30,7 +32,7 @@ write-requires-clause-open g c κs within =
     let u = c.self.inside in
     let disk = g.D.Disk in
     let old : UnitValue _ _ _ = record { job = g.J.Job.plain u.job.now; shelf = u.shelf; messages = u.messages.items; core = u.core; disk = u.disk; marks = reverse u.marks.items; begun = u.begun; broken = u.broken } in
-    let allowed = sym c.refusal.ensures ∙ c.in_default.is in
+    let allowed = sym c.refusal.ensures.refusal ∙ c.in_default.is in
     let sound : u.broken ≡ false = unbroken u.broken u.core allowed in
     stand_open_now g.J.Job.meaning disk.tells disk.reads disk.call_number disk.images disk.images_since old u.logs c.self.invariant c.plan_of.ensures.core sound
 
@@ -39,7 +41,7 @@ invariant_of-self-in-Err g c =
     let u = c.self.inside in
     let disk = g.D.Disk in
     let old : UnitValue _ _ _ = record { job = g.J.Job.plain u.job.now; shelf = u.shelf; messages = u.messages.items; core = u.core; disk = u.disk; marks = reverse u.marks.items; begun = u.begun; broken = u.broken } in
-    let allowed = sym c.refusal.ensures ∙ c.in_default.is in
+    let allowed = sym c.refusal.ensures.refusal ∙ c.in_default.is in
     let sound : u.broken ≡ false = unbroken u.broken u.core allowed in
     let law = (g.met.D.Disk g.world.𝓛 g.world.𝓜 g.world.𝓡 ((λ s x. x), (λ x. x), (λ x. x), λ x. x)) in
     let plan = c.in_ok-plan.plan in
@@ -54,7 +56,7 @@ returns-in-Err-clause-begun g c = λ _.
     let u = c.self.inside in
     let disk = g.D.Disk in
     let old : UnitValue _ _ _ = record { job = g.J.Job.plain u.job.now; shelf = u.shelf; messages = u.messages.items; core = u.core; disk = u.disk; marks = reverse u.marks.items; begun = u.begun; broken = u.broken } in
-    let allowed = sym c.refusal.ensures ∙ c.in_default.is in
+    let allowed = sym c.refusal.ensures.refusal ∙ c.in_default.is in
     let sound : u.broken ≡ false = unbroken u.broken u.core allowed in
     let law = (g.met.D.Disk g.world.𝓛 g.world.𝓜 g.world.𝓡 ((λ s x. x), (λ x. x), (λ x. x), λ x. x)) in
     let plan = c.in_ok-plan.plan in
@@ -70,7 +72,7 @@ invariant_of-self-2 g c =
     let u = c.self.inside in
     let disk = g.D.Disk in
     let old : UnitValue _ _ _ = record { job = g.J.Job.plain u.job.now; shelf = u.shelf; messages = u.messages.items; core = u.core; disk = u.disk; marks = reverse u.marks.items; begun = u.begun; broken = u.broken } in
-    let allowed = sym c.refusal.ensures ∙ c.in_default.is in
+    let allowed = sym c.refusal.ensures.refusal ∙ c.in_default.is in
     let sound : u.broken ≡ false = unbroken u.broken u.core allowed in
     let law = (g.met.D.Disk g.world.𝓛 g.world.𝓜 g.world.𝓡 ((λ s x. x), (λ x. x), (λ x. x), λ x. x)) in
     let plan = c.in_ok-plan.plan in
@@ -97,7 +99,7 @@ returns-clause-marked g c =
     let u = c.self.inside in
     let disk = g.D.Disk in
     let old : UnitValue _ _ _ = record { job = g.J.Job.plain u.job.now; shelf = u.shelf; messages = u.messages.items; core = u.core; disk = u.disk; marks = reverse u.marks.items; begun = u.begun; broken = u.broken } in
-    let allowed = sym c.refusal.ensures ∙ c.in_default.is in
+    let allowed = sym c.refusal.ensures.refusal ∙ c.in_default.is in
     let sound : u.broken ≡ false = unbroken u.broken u.core allowed in
     let law = (g.met.D.Disk g.world.𝓛 g.world.𝓜 g.world.𝓡 ((λ s x. x), (λ x. x), (λ x. x), λ x. x)) in
     let plan = c.in_ok-plan.plan in
@@ -128,7 +130,7 @@ returns-in_err-plan-clause-limit g c =
     let u = c.self.inside in
     let disk = g.D.Disk in
     let old : UnitValue _ _ _ = record { job = g.J.Job.plain u.job.now; shelf = u.shelf; messages = u.messages.items; core = u.core; disk = u.disk; marks = reverse u.marks.items; begun = u.begun; broken = u.broken } in
-    let sound : u.broken ≡ false = unbroken u.broken u.core (sym c.refusal.ensures ∙ c.in_default.is) in
+    let sound : u.broken ≡ false = unbroken u.broken u.core (sym c.refusal.ensures.refusal ∙ c.in_default.is) in
     let p = err_from_is_err_and c.from_residual-in_err-plan.result c.from_residual-in_err-plan.ensures.1 in
     rw (p.1, p.2)
     (λ is told.
@@ -140,7 +142,7 @@ returns-clause-room g c = λ told full.
     let u = c.self.inside in
     let disk = g.D.Disk in
     let old : UnitValue _ _ _ = record { job = g.J.Job.plain u.job.now; shelf = u.shelf; messages = u.messages.items; core = u.core; disk = u.disk; marks = reverse u.marks.items; begun = u.begun; broken = u.broken } in
-    let sound : u.broken ≡ false = unbroken u.broken u.core (sym c.refusal.ensures ∙ c.in_default.is) in
+    let sound : u.broken ≡ false = unbroken u.broken u.core (sym c.refusal.ensures.refusal ∙ c.in_default.is) in
     let plan = c.in_ok-plan.plan in
     has_room g.J.Job.meaning disk.tells disk.reads disk.call_number disk.images disk.images_since old u.logs c.self.invariant c.plan_of.ensures.core sound plan.frames plan.mark c.in_ok-plan.ensures.planned c.in_ok-plan.reach c.in_ok-plan.ensures.reaches told
     (subst (λ v. CommitPasses v (disk.reads v.disk)) (sym c.self.view_is) full)
@@ -150,7 +152,7 @@ returns-in-Err-clause-tested g c = λ _ told full.
     let u = c.self.inside in
     let disk = g.D.Disk in
     let old : UnitValue _ _ _ = record { job = g.J.Job.plain u.job.now; shelf = u.shelf; messages = u.messages.items; core = u.core; disk = u.disk; marks = reverse u.marks.items; begun = u.begun; broken = u.broken } in
-    let sound : u.broken ≡ false = unbroken u.broken u.core (sym c.refusal.ensures ∙ c.in_default.is) in
+    let sound : u.broken ≡ false = unbroken u.broken u.core (sym c.refusal.ensures.refusal ∙ c.in_default.is) in
     let plan = c.in_ok-plan.plan in
     has_room g.J.Job.meaning disk.tells disk.reads disk.call_number disk.images disk.images_since old u.logs c.self.invariant c.plan_of.ensures.core sound plan.frames plan.mark c.in_ok-plan.ensures.planned c.in_ok-plan.reach c.in_ok-plan.ensures.reaches told
     (subst (λ v. CommitPasses v (disk.reads v.disk)) (sym c.self.view_is) full)
@@ -160,7 +162,7 @@ returns-clause-others_any_moment g c = λ told.
     let u = c.self.inside in
     let disk = g.D.Disk in
     let old : UnitValue _ _ _ = record { job = g.J.Job.plain u.job.now; shelf = u.shelf; messages = u.messages.items; core = u.core; disk = u.disk; marks = reverse u.marks.items; begun = u.begun; broken = u.broken } in
-    let sound : u.broken ≡ false = unbroken u.broken u.core (sym c.refusal.ensures ∙ c.in_default.is) in
+    let sound : u.broken ≡ false = unbroken u.broken u.core (sym c.refusal.ensures.refusal ∙ c.in_default.is) in
     let plan = c.in_ok-plan.plan in
     subst (λ v. LeavesOnly disk.call_number disk.images disk.images_since v.disk c.write.new.disk (OthersStay (length v.core.setup.stores) (length v.core.setup.outputs))) c.self.view_is
     (leaves_others g.J.Job.meaning disk.tells disk.reads disk.call_number disk.images disk.images_since old u.logs c.self.invariant c.plan_of.ensures.core sound plan.frames plan.mark c.in_ok-plan.ensures.planned c.write.new.disk c.write.ensures.any_moment told)
@@ -170,7 +172,7 @@ returns-in-Err-clause-others_any_moment g c = λ told.
     let u = c.self.inside in
     let disk = g.D.Disk in
     let old : UnitValue _ _ _ = record { job = g.J.Job.plain u.job.now; shelf = u.shelf; messages = u.messages.items; core = u.core; disk = u.disk; marks = reverse u.marks.items; begun = u.begun; broken = u.broken } in
-    let sound : u.broken ≡ false = unbroken u.broken u.core (sym c.refusal.ensures ∙ c.in_default.is) in
+    let sound : u.broken ≡ false = unbroken u.broken u.core (sym c.refusal.ensures.refusal ∙ c.in_default.is) in
     let plan = c.in_ok-plan.plan in
     subst (λ v. LeavesOnly disk.call_number disk.images disk.images_since v.disk c.write.new.disk (OthersStay (length v.core.setup.stores) (length v.core.setup.outputs))) c.self.view_is
     (leaves_others g.J.Job.meaning disk.tells disk.reads disk.call_number disk.images disk.images_since old u.logs c.self.invariant c.plan_of.ensures.core sound plan.frames plan.mark c.in_ok-plan.ensures.planned c.write.new.disk c.write.ensures.any_moment told)
@@ -182,3 +184,72 @@ returns-in_err-plan-clause-others_any_moment g c = λ told.
     let law = (g.met.D.Disk g.world.𝓛 g.world.𝓜 g.world.𝓡 ((λ s x. x), (λ x. x), (λ x. x), λ x. x)) in
     subst (λ v. LeavesOnly disk.call_number disk.images disk.images_since v.disk u.disk (OthersStay (length v.core.setup.stores) (length v.core.setup.outputs))) c.self.view_is
     (others_still disk.reads disk.call_number disk.images disk.images_since u.disk (length u.core.setup.stores) (length u.core.setup.outputs) (λ f left. law.only_now u.disk f told left))
+
+pub returns-clause-any_moment : goal.returns-clause-any_moment
+returns-clause-any_moment g c = λ told _ contents before.
+    let u = c.self.inside in
+    let disk = g.D.Disk in
+    let old : UnitValue _ _ _ = record { job = g.J.Job.plain u.job.now; shelf = u.shelf; messages = u.messages.items; core = u.core; disk = u.disk; marks = reverse u.marks.items; begun = u.begun; broken = u.broken } in
+    let sound : u.broken ≡ false = unbroken u.broken u.core (sym c.refusal.ensures.refusal ∙ c.in_default.is) in
+    let plan = c.in_ok-plan.plan in
+    subst (λ v. LeavesOnly disk.call_number disk.images disk.images_since v.disk c.write.new.disk (CrashLeaves v (disk.reads v.disk) contents)) c.self.view_is
+    (leaves_some g.J.Job.meaning disk.tells disk.reads disk.call_number disk.images disk.images_since old u.logs c.self.invariant c.plan_of.ensures.core sound plan.frames plan.mark c.in_ok-plan.ensures.planned c.write.new.disk c.write.ensures.any_moment told contents
+    (subst (λ v. Restores v.core.setup (disk.reads v.disk) (last_mark v.marks) contents) (sym c.self.view_is) before))
+
+pub returns-in-Err-clause-any_moment : goal.returns-in-Err-clause-any_moment
+returns-in-Err-clause-any_moment g c = λ told _ contents before.
+    let u = c.self.inside in
+    let disk = g.D.Disk in
+    let old : UnitValue _ _ _ = record { job = g.J.Job.plain u.job.now; shelf = u.shelf; messages = u.messages.items; core = u.core; disk = u.disk; marks = reverse u.marks.items; begun = u.begun; broken = u.broken } in
+    let sound : u.broken ≡ false = unbroken u.broken u.core (sym c.refusal.ensures.refusal ∙ c.in_default.is) in
+    let plan = c.in_ok-plan.plan in
+    subst (λ v. LeavesOnly disk.call_number disk.images disk.images_since v.disk c.write.new.disk (CrashLeaves v (disk.reads v.disk) contents)) c.self.view_is
+    (leaves_some g.J.Job.meaning disk.tells disk.reads disk.call_number disk.images disk.images_since old u.logs c.self.invariant c.plan_of.ensures.core sound plan.frames plan.mark c.in_ok-plan.ensures.planned c.write.new.disk c.write.ensures.any_moment told contents
+    (subst (λ v. Restores v.core.setup (disk.reads v.disk) (last_mark v.marks) contents) (sym c.self.view_is) before))
+
+pub returns-in_err-plan-clause-any_moment : goal.returns-in_err-plan-clause-any_moment
+returns-in_err-plan-clause-any_moment g c = λ told _ contents before.
+    let u = c.self.inside in
+    let disk = g.D.Disk in
+    let old : UnitValue _ _ _ = record { job = g.J.Job.plain u.job.now; shelf = u.shelf; messages = u.messages.items; core = u.core; disk = u.disk; marks = reverse u.marks.items; begun = u.begun; broken = u.broken } in
+    let sound : u.broken ≡ false = unbroken u.broken u.core (sym c.refusal.ensures.refusal ∙ c.in_default.is) in
+    let law = (g.met.D.Disk g.world.𝓛 g.world.𝓜 g.world.𝓡 ((λ s x. x), (λ x. x), (λ x. x), λ x. x)) in
+    subst (λ v. LeavesOnly disk.call_number disk.images disk.images_since v.disk u.disk (CrashLeaves v (disk.reads v.disk) contents)) c.self.view_is
+    (leaves_still g.J.Job.meaning disk.tells disk.reads disk.call_number disk.images disk.images_since old u.logs c.self.invariant c.plan_of.ensures.core sound told (λ f left. law.only_now u.disk f told left) contents
+    (subst (λ v. Restores v.core.setup (disk.reads v.disk) (last_mark v.marks) contents) (sym c.self.view_is) before))
+
+pub returns-in-Some-clause-any_moment : goal.returns-in-Some-clause-any_moment
+returns-in-Some-clause-any_moment g c = λ told not_broken contents before.
+    let u = c.self.inside in
+    let disk = g.D.Disk in
+    let old : UnitValue _ _ _ = record { job = g.J.Job.plain u.job.now; shelf = u.shelf; messages = u.messages.items; core = u.core; disk = u.disk; marks = reverse u.marks.items; begun = u.begun; broken = u.broken } in
+    let law = (g.met.D.Disk g.world.𝓛 g.world.𝓜 g.world.𝓡 ((λ s x. x), (λ x. x), (λ x. x), λ x. x)) in
+    let sound : u.broken ≡ false = ap (λ v. v.broken) c.self.view_is ∙ not_broken in
+    subst (λ v. LeavesOnly disk.call_number disk.images disk.images_since v.disk v.disk (CrashLeaves v (disk.reads v.disk) contents)) c.self.view_is
+    (leaves_still g.J.Job.meaning disk.tells disk.reads disk.call_number disk.images disk.images_since old u.logs c.self.invariant c.refusal.ensures.core sound told (λ f left. law.only_now u.disk f told left) contents
+    (subst (λ v. Restores v.core.setup (disk.reads v.disk) (last_mark v.marks) contents) (sym c.self.view_is) before))
+
+pub returns-in_err-make_room-clause-any_moment : goal.returns-in_err-make_room-clause-any_moment
+returns-in_err-make_room-clause-any_moment g c = λ told not_broken contents before.
+    let u = c.self.inside in
+    let disk = g.D.Disk in
+    let old : UnitValue _ _ _ = record { job = g.J.Job.plain u.job.now; shelf = u.shelf; messages = u.messages.items; core = u.core; disk = u.disk; marks = reverse u.marks.items; begun = u.begun; broken = u.broken } in
+    let law = (g.met.D.Disk g.world.𝓛 g.world.𝓜 g.world.𝓡 ((λ s x. x), (λ x. x), (λ x. x), λ x. x)) in
+    let sound : u.broken ≡ false = ap (λ v. v.broken) c.self.view_is ∙ not_broken in
+    subst (λ v. LeavesOnly disk.call_number disk.images disk.images_since v.disk u.disk (CrashLeaves v (disk.reads v.disk) contents)) c.self.view_is
+    (leaves_still g.J.Job.meaning disk.tells disk.reads disk.call_number disk.images disk.images_since old u.logs c.self.invariant c.refusal.ensures.core sound told (λ f left. law.only_now u.disk f told left) contents
+    (subst (λ v. Restores v.core.setup (disk.reads v.disk) (last_mark v.marks) contents) (sym c.self.view_is) before))
+
+pub returns-clause-durable : goal.returns-clause-durable
+returns-clause-durable g c = λ told other is image now.
+    let u = c.self.inside in
+    let disk = g.D.Disk in
+    let old : UnitValue _ _ _ = record { job = g.J.Job.plain u.job.now; shelf = u.shelf; messages = u.messages.items; core = u.core; disk = u.disk; marks = reverse u.marks.items; begun = u.begun; broken = u.broken } in
+    let sound : u.broken ≡ false = unbroken u.broken u.core (sym c.refusal.ensures.refusal ∙ c.in_default.is) in
+    let plan = c.in_ok-plan.plan in
+    let m : KeptMark = record { checkpoint = Some plan.mark; at = disk.call_number c.write.new.disk } in
+    let more = marks_more m u.marks.items c.make_room.new.marks.items c.push_reserved.new.self.items c.make_room.ensures.same
+    (c.push_reserved.ensures.items ∙ ap (λ at. c.make_room.new.marks.items ++ record { checkpoint = Some plan.mark; at = at } ∷ []) c.calls-at.ensures) in
+    let here = is_commit g.J.Job.meaning disk.tells disk.reads disk.call_number disk.images disk.images_since old u.logs c.self.invariant c.plan_of.ensures.core sound plan.frames plan.mark c.in_ok-plan.ensures.planned c.write.new.disk c.write.new.self c.in-Ok.ensures.follows told image now in
+    subst (λ v. IsCommitOf v (disk.reads v.disk) image other) c.self.view_is
+    (subst (λ o. IfSome o (λ k. IsCommitOf old (disk.reads u.disk) image k)) (ap last_mark more ∙ is) here)
