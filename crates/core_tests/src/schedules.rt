@@ -13,7 +13,7 @@ const ENDED: Applied = Applied {
 };
 
 /// What a core says of itself in which nothing is in flight.
-const IDLE: Status = Status {
+pub(crate) const IDLE: Status = Status {
     in_flight: 0,
     due: false,
     window_due: false,

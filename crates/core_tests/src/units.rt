@@ -6,9 +6,10 @@ ghost use Rattle.disk_model.specs.Handles.{NoneOut};
 ghost use Rattle.disk_model.specs.MemoryHost.{host_disks_out, host_shelves_out};
 
 use crate::cores::{Shape, setup};
+use crate::schedules::IDLE;
 use crate::steps::{GOES_ON, Told};
 use crate::unit_calls::{Look, Step, Unit, first_wrong};
-use disk_model::{DiskName, Host, HostFault, MemDisk, MemHost, MemShelf, Pick};
+use disk_model::{DiskName, Host, MemDisk, MemHost, MemShelf, Pick};
 use event_unit::{ActFault, CommitFault, DeliverFault, OpenFault, Status, TaskUnit};
 use samza_model::{Bin, NoMemory, Setup};
 use shipped_jobs::WordCount;
@@ -62,46 +63,195 @@ struct Life {
 /// A name, and the lives of a unit, each over what the one before left.
 type Row = (&'static str, &'static [Life]);
 
+/// Where a unit stands that was opened behind the first message and its mark.
+const BEHIND_FIRST: Look = Look {
+    last: 1,
+    start: 1,
+    low: 1,
+    next: 1,
+    keys: 2,
+    ..NEW
+};
+
+/// The first message is done, and its commit's call on the disk fails.
+const FAILED_COMMIT: &[Step] = &[
+    Step::Deliver(Ok(0)),
+    Step::End(0, 7),
+    Step::Commit(Err(CommitFault::Device)),
+    Step::Stands(Look {
+        low: 1,
+        next: 1,
+        keys: 2,
+        sent: 2,
+        broken: true,
+        faults: 1,
+        ..NEW
+    }),
+    Step::Deliver(Err(DeliverFault::Broken)),
+    Step::Commit(Err(CommitFault::Broken)),
+];
+
 /// Lives of units over one disk.
-const LIVES: &[Row] = &[(
-    "messages, marks and openings",
-    &[
-        Life {
-            crash: None,
-            fail: None,
-            opens: Ok(()),
-            calls: &[
-                Step::Stands(NEW),
-                Step::Deliver(Ok(0)),
-                Step::Deliver(Err(DeliverFault::Full { in_flight: 1 })),
-                Step::Commit(Err(CommitFault::Busy { in_flight: 1 })),
-                Step::End(0, 7),
-                Step::Commit(Ok(1)),
-                Step::Stands(Look {
-                    last: 1,
-                    low: 1,
-                    next: 1,
-                    keys: 2,
-                    sent: 2,
-                    ..NEW
-                }),
-            ],
-        },
-        Life {
-            crash: None,
-            fail: None,
-            opens: Ok(()),
-            calls: &[Step::Stands(Look {
-                last: 1,
-                start: 1,
-                low: 1,
-                next: 1,
-                keys: 2,
-                ..NEW
-            })],
-        },
-    ],
-)];
+const LIVES: &[Row] = &[
+    (
+        "messages, marks and openings",
+        &[
+            Life {
+                crash: None,
+                fail: None,
+                opens: Ok(()),
+                calls: &[
+                    Step::Stands(NEW),
+                    Step::Says(IDLE),
+                    Step::Concurrency(1),
+                    Step::Deliver(Ok(0)),
+                    Step::Deliver(Err(DeliverFault::Full { in_flight: 1 })),
+                    Step::Commit(Err(CommitFault::Busy { in_flight: 1 })),
+                    Step::Act(0, Ok(GOES_ON)),
+                    Step::Ask(0, Told::Applied(GOES_ON)),
+                    Step::AskEarly(0, Told::Stale(3)),
+                    Step::Stands(Look {
+                        flying: Some(0),
+                        next: 1,
+                        keys: 1,
+                        sent: 1,
+                        ..NEW
+                    }),
+                    Step::End(0, 4),
+                    Step::Act(0, Err(ActFault::Unknown)),
+                    Step::Ask(0, Told::Unknown),
+                    Step::Tell(100),
+                    Step::Says(Status { due: true, ..IDLE }),
+                    Step::Commit(Ok(1)),
+                    Step::Says(IDLE),
+                    Step::MarkDue,
+                    Step::Deliver(Err(DeliverFault::Draining)),
+                    Step::Commit(Ok(2)),
+                    Step::Stands(Look {
+                        last: 2,
+                        low: 1,
+                        next: 1,
+                        keys: 2,
+                        sent: 2,
+                        ..NEW
+                    }),
+                ],
+            },
+            Life {
+                crash: None,
+                fail: None,
+                opens: Ok(()),
+                calls: &[
+                    Step::Stands(Look {
+                        last: 2,
+                        ..BEHIND_FIRST
+                    }),
+                    Step::Deliver(Ok(0)),
+                    Step::End(0, 4),
+                    Step::Deliver(Ok(1)),
+                    Step::End(1, 7),
+                    Step::Deliver(Err(DeliverFault::Ended)),
+                    Step::Commit(Ok(3)),
+                    Step::Stands(Look {
+                        last: 3,
+                        start: 1,
+                        low: 3,
+                        next: 3,
+                        keys: 3,
+                        sent: 3,
+                        ..NEW
+                    }),
+                ],
+            },
+        ],
+    ),
+    (
+        "a crash takes back what is behind the last mark",
+        &[
+            Life {
+                crash: None,
+                fail: None,
+                opens: Ok(()),
+                calls: &[
+                    Step::Deliver(Ok(0)),
+                    Step::End(0, 7),
+                    Step::Commit(Ok(1)),
+                    Step::Deliver(Ok(1)),
+                    Step::End(1, 4),
+                    Step::Deliver(Ok(2)),
+                    Step::End(2, 7),
+                ],
+            },
+            Life {
+                crash: Some(Pick::Old),
+                fail: None,
+                opens: Ok(()),
+                calls: &[
+                    Step::Stands(BEHIND_FIRST),
+                    Step::Deliver(Ok(0)),
+                    Step::Act(0, Ok(GOES_ON)),
+                ],
+            },
+            Life {
+                crash: Some(Pick::New),
+                fail: None,
+                opens: Ok(()),
+                calls: &[Step::Stands(BEHIND_FIRST)],
+            },
+        ],
+    ),
+    (
+        "a commit whose first call fails",
+        &[
+            Life {
+                crash: None,
+                fail: Some(12),
+                opens: Ok(()),
+                calls: FAILED_COMMIT,
+            },
+            Life {
+                crash: Some(Pick::Old),
+                fail: None,
+                opens: Ok(()),
+                calls: &[Step::Stands(NEW)],
+            },
+        ],
+    ),
+    (
+        "a commit whose last call fails, and its mark is read",
+        &[
+            Life {
+                crash: None,
+                fail: Some(23),
+                opens: Ok(()),
+                calls: FAILED_COMMIT,
+            },
+            Life {
+                crash: Some(Pick::New),
+                fail: None,
+                opens: Ok(()),
+                calls: &[Step::Stands(BEHIND_FIRST)],
+            },
+        ],
+    ),
+    (
+        "a disk whose first call fails",
+        &[
+            Life {
+                crash: None,
+                fail: Some(0),
+                opens: Err(OpenFault::Device),
+                calls: &[],
+            },
+            Life {
+                crash: None,
+                fail: None,
+                opens: Ok(()),
+                calls: &[Step::Stands(Look { faults: 1, ..NEW })],
+            },
+        ],
+    ),
+];
 
 /// The disk and the shelf of a task that no unit has.
 #[derive(Drop)]
@@ -249,5 +399,30 @@ fn units_are_opened_run_committed_and_opened_again(rt: HostRuntime) -> Result<()
         let found = wrong(rt.alloc(), outside, lives)?;
         assert!(rt; found.is_none(), "{name}: {found:?}");
     }
+    Ok(())
+}
+
+/// An input that can't be read at first, and then can.
+const UNREAD: &[Life] = &[
+    Life {
+        crash: None,
+        fail: None,
+        opens: Err(OpenFault::Device),
+        calls: &[],
+    },
+    Life {
+        crash: None,
+        fail: None,
+        opens: Ok(()),
+        calls: &[Step::Deliver(Ok(0)), Step::End(0, 7)],
+    },
+];
+
+#[test]
+fn an_input_that_is_not_read_comes_back(rt: HostRuntime) -> Result<(), Fail> {
+    let disk = new_disk(rt.alloc())?;
+    let shelf = new_shelf(rt.alloc(), &[0])?;
+    let found = wrong(rt.alloc(), Outside { disk, shelf }, UNREAD)?;
+    assert!(rt; found.is_none(), "{found:?}");
     Ok(())
 }
