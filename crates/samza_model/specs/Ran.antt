@@ -5,7 +5,9 @@ use Rattle.samza_model.specs.declared.setups.InputSetup.{InputSetup}
 use Rattle.samza_model.specs.declared.checkpoints.Checkpoint.{Checkpoint}
 use Rattle.samza_model.specs.declared.marks.KeptMark.{KeptMark}
 use Rattle.samza_model.specs.declared.events.Event.{Event}
-use Rattle.samza_model.specs.declared.events.Event.TheVariants.{WindowDid, WindowEnded}
+use Rattle.samza_model.specs.declared.events.Event.TheVariants.{Failed, WindowDid, WindowEnded}
+use Rattle.samza_model.specs.declared.turns.Turn.{Turn}
+use Rattle.samza_model.specs.declared.turns.Turn.TheVariants.{Call, Window}
 use Rattle.samza_model.specs.Content.{Content, State}
 use Rattle.samza_model.specs.Events.{flights, first_failure, window_open}
 use Rattle.samza_model.specs.Files.{Image}
@@ -39,7 +41,12 @@ opening job s parts mark stores = record {
   state = fresh s stores;
 }
 
+abbrev pub is_window : Turn → Bool
+is_window (Call n) = false
+is_window Window = true
+
 abbrev pub is_of_window : Event → Bool
+is_of_window (Failed f) = is_window f.turn
 is_of_window (WindowDid i act answer) = true
 is_of_window WindowEnded = true
 is_of_window _ = false
