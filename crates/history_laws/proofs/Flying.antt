@@ -19,18 +19,18 @@ all_answered P keeps n a (f ∷ fs) all = elim (f.number == n) as (λ b. AllByRe
   | false ↦ (all.0, all_answered P keeps n a fs all.1)
 ]
 
-all_without : (P : Flight → Type 0) (n : ℕ) (fs : List Flight) → AllByRecursion P fs → AllByRecursion P (without n fs)
+pub all_without : (P : Flight → Type 0) (n : ℕ) (fs : List Flight) → AllByRecursion P fs → AllByRecursion P (without n fs)
 all_without P n [] all = tt
 all_without P n (f ∷ fs) all = elim (f.number == n) as (λ b. AllByRecursion P (if b then fs else f ∷ without n fs)) [
   | true ↦ all.1
   | false ↦ (all.0, all_without P n fs all.1)
 ]
 
-all_without_turn : (P : Flight → Type 0) (turn : Turn) (fs : List Flight) → AllByRecursion P fs → AllByRecursion P (without_turn turn fs)
+pub all_without_turn : (P : Flight → Type 0) (turn : Turn) (fs : List Flight) → AllByRecursion P fs → AllByRecursion P (without_turn turn fs)
 all_without_turn P (Call n) fs all = all_without P n fs all
 all_without_turn P Window fs all = all
 
-all_more : (P : Flight → Type 0) (fs : List Flight) (f : Flight) → AllByRecursion P fs → P f → AllByRecursion P (fs ++ f ∷ [])
+pub all_more : (P : Flight → Type 0) (fs : List Flight) (f : Flight) → AllByRecursion P fs → P f → AllByRecursion P (fs ++ f ∷ [])
 all_more P [] f all p = (p, tt)
 all_more P (g ∷ fs) f all p = (all.0, all_more P fs f all.1 p)
 

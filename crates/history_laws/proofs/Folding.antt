@@ -1,25 +1,29 @@
 -- One message in flight at a time: the job does whole messages, one after another.
-use Rattle.std.proofs.Common.{ℕ, ◌-◌, ◌≡◌, ◌≢◌, ◌<◌, ◌⊎◌, inl, inr, Bool, true, false, ◌==◌, if◌then◌else◌, List, [], ◌∷◌, ◌++◌, length, Option, Some, None, nat_lt, refl, sym, ◌∙◌, ap, subst, arith}
-use Rattle.std.proofs.lemmas.Bool.{ltb-true}
+use Rattle.std.proofs.Common.{ℕ, ◌-◌, ◌≡◌, ◌≢◌, ◌<◌, ◌⊎◌, inl, inr, Bool, true, false, ◌==◌, if◌then◌else◌, List, [], ◌∷◌, ◌++◌, length, Option, Some, None, refl, sym, ◌∙◌, ap, subst, arith}
 use Rattle.std.proofs.lemmas.List.{length-append}
 use Rattle.std.proofs.lemmas.Option.{none-some}
 use Rattle.samza_model.specs.declared.messages.Envelope.{Envelope}
 use Rattle.samza_model.specs.declared.messages.Record.{Record}
 use Rattle.samza_model.specs.declared.acts.Act.{Act}
 use Rattle.samza_model.specs.declared.acts.Answer.{Answer}
+use Rattle.samza_model.specs.declared.turns.Turn.{Turn}
+use Rattle.samza_model.specs.declared.turns.Turn.TheVariants.{Call, Window}
 use Rattle.samza_model.specs.declared.turns.Failure.{Failure}
-use Rattle.samza_model.specs.declared.turns.Why.TheVariants.{TooMany}
+use Rattle.samza_model.specs.declared.turns.Why.{Why}
 use Rattle.samza_model.specs.declared.flights.Flight.{Flight}
 use Rattle.samza_model.specs.declared.events.Event.{Event}
 use Rattle.samza_model.specs.declared.events.Event.TheVariants.{Deliver, Did, Complete, Failed, WindowDid, WindowEnded}
 use Rattle.samza_model.specs.Content.{State, answer_of, changed}
-use Rattle.samza_model.specs.Events.{answered, begun, earlier, first_failure, flight_of, flights, state_after, with_answer, without}
-use Rattle.samza_model.specs.Lawful.{Given, IsLawful, MayAct, call_event, course, ends_or_goes_on, IsAct}
+use Rattle.samza_model.specs.Events.{answered, begun, earlier, first_failure, flight_of, flights, ssp_at, state_after, with_answer, without, without_turn}
+use Rattle.samza_model.specs.Lawful.{Given, IsLawful, MayAct, MayExpire, MayFail, call_event, course, IsAct}
 use Rattle.samza_model.specs.Meaning.{Meaning}
-use Rattle.samza_model.specs.Ran.{HasNoWindows}
-use Rattle.samza_model.specs.Runs.{End, end_at, folds, run_on, runs}
-use Rattle.samza_model.proofs.Laws.{fold_more, fold_of_none, turn_ends, turn_goes_on}
+use Rattle.samza_model.specs.Ran.{HasNoWindows, is_window}
+use Rattle.samza_model.specs.Runs.{Run, end_at, folds, run_on, runs}
+use Rattle.samza_model.proofs.Laws.{fold_more, fold_of_none, turn_ends, turn_goes_on, turn_is_over}
+use Rattle.history_laws.specs.Fails.{IsNotExpired, IsOfLast}
 use Rattle.history_laws.specs.Folds.{delivered}
+use Rattle.history_laws.proofs.Turning.{complete_is, did_is, failed_is, fails_by, goes_on, is_done}
+use Rattle.history_laws.proofs.Expiring.{first_of}
 
 module _ (job : Meaning) (k : Given) (told : k.job ≡ Some job) (alone : k.setup.concurrency ≡ 1) where
   -- nothing is in flight
@@ -34,6 +38,8 @@ module _ (job : Meaning) (k : Given) (told : k.job ≡ Some job) (alone : k.setu
     pub state : State
     pub last : delivered k.setup h ≡ earlier_ones ++ f.envelope ∷ []
     pub done : folds job k.setup earlier_ones k.state ≡ Some state
+    pub among : f.input < length k.starts
+    pub ssp : f.envelope.ssp ≡ ssp_at k.setup f.input
     pub so_far : runs job k.setup f.envelope state ≡ run_on job k.setup f.envelope (1023 - length f.answers) (state_after k.state h) f.answers
 
   abbrev IsStage : List Event → Type 0
@@ -69,45 +75,15 @@ module _ (job : Meaning) (k : Given) (told : k.job ≡ Some job) (alone : k.setu
   no_flight : (n : ℕ) (h : List Event) (e : Event) → flights k.setup h ≡ [] → MayAct k h n e → ⊥
   no_flight n h e none may = none-some may.flight (sym (ap (flight_of n) none) ∙ may.flies)
 
-  did_is : (f : Flight) (state : State) (act : Act) (course : Option End) (n i : ℕ) (did : Act) (answer : Answer) → Did n i did answer ≡ call_event f state act course → (course ≡ None) × (did ≡ act) × (answer ≡ answer_of state act)
-  did_is f state act None n i did answer is = (refl, cc, cc)
-  did_is f state act (Some None) n i did answer is = absurd cc
-  did_is f state act (Some (Some why)) n i did answer is = absurd cc
-
-  complete_is : (f : Flight) (state : State) (act : Act) (course : Option End) (n : ℕ) → Complete n ≡ call_event f state act course → course ≡ Some None
-  complete_is f state act None n is = absurd cc
-  complete_is f state act (Some None) n is = refl
-  complete_is f state act (Some (Some why)) n is = absurd cc
-
-  abbrev IsNone : Option End → Type 0
-  IsNone x = x ≡ None
-
-  abbrev IsDone : Option End → Type 0
-  IsDone x = x ≡ Some None
-
-  goes_on : (made : ℕ) (x : Option End) → ends_or_goes_on made x ≡ None → IsNone x × (made < 1023)
-  goes_on made None = elim (nat_lt made 1023) as (λ b. nat_lt made 1023 ≡ b → IsNone (if b then None else Some (Some TooMany)) → IsNone None × (made < 1023)) [
-    | true ↦ λ lt is. (refl, ltb-true made 1023 lt)
-    | false ↦ λ lt is. absurd cc
-  ] refl
-  goes_on made (Some end) = λ is. absurd cc
-
-  is_done : (made : ℕ) (x : Option End) → ends_or_goes_on made x ≡ Some None → x ≡ Some None
-  is_done made None = elim (nat_lt made 1023) as (λ b. IsDone (if b then None else Some (Some TooMany)) → IsDone None) [
-    | true ↦ λ is. is
-    | false ↦ λ is. absurd cc
-  ]
-  is_done made (Some end) = λ is. is
-
   answered_one : (n : ℕ) (a : Answer) (f : Flight) → (f.number == n) ≡ true → answered n a (f ∷ []) ≡ with_answer a f ∷ []
   answered_one n a f is = ap (λ (b : Bool). if b then with_answer a f ∷ [] else f ∷ []) is
 
   without_one : (n : ℕ) (f : Flight) → (f.number == n) ≡ true → without n (f ∷ []) ≡ []
   without_one n f is = ap (λ (b : Bool). if b then [] else f ∷ []) is
 
-  begins : (h : List Event) (n p o : ℕ) (m : Record) (t : ℕ) → length (flights k.setup h) < k.setup.concurrency → IsStage h → IsStage (Deliver n p o m t ∷ h)
+  begins : (h : List Event) (n p o : ℕ) (m : Record) (t : ℕ) → p < length k.starts → length (flights k.setup h) < k.setup.concurrency → IsStage h → IsStage (Deliver n p o m t ∷ h)
   unfolding flights delivered state_after
-  begins h n p o m t room (inl idle) = inr (
+  begins h n p o m t among room (inl idle) = inr (
     begun k.setup n p o m t,
     record {
       one = ap (λ (fs : List Flight). fs ++ begun k.setup n p o m t ∷ []) idle.none;
@@ -115,10 +91,12 @@ module _ (job : Meaning) (k : Given) (told : k.job ≡ Some job) (alone : k.setu
       state = state_after k.state h;
       last = refl;
       done = idle.done;
+      among = among;
+      ssp = refl;
       so_far = refl;
     },
   )
-  begins h n p o m t room (inr (f, busy)) = absurd (omega (arith, room, alone, ap length busy.one))
+  begins h n p o m t among room (inr (f, busy)) = absurd (omega (arith, room, alone, ap length busy.one))
 
   acts : (h : List Event) (n i : ℕ) (did : Act) (answer : Answer) → MayAct k h n (Did n i did answer) → IsStage h → IsStage (Did n i did answer ∷ h)
   unfolding flights delivered state_after
@@ -143,6 +121,8 @@ module _ (job : Meaning) (k : Given) (told : k.job ≡ Some job) (alone : k.setu
           state = busy.state;
           last = busy.last;
           done = busy.done;
+          among = busy.among;
+          ssp = busy.ssp;
           so_far = busy.so_far
               ∙ turn_goes_on job s f.envelope state f.answers left did of_job on_end some
               ∙ ap (λ (a : Answer). run_on job s f.envelope (left - 1) (changed state did) (f.answers ++ a ∷ [])) same_answer
@@ -172,12 +152,84 @@ module _ (job : Meaning) (k : Given) (told : k.job ≡ Some job) (alone : k.setu
   stage : (h : List Event) → HasNoWindows None h → IsLawful k h → first_failure h ≡ None → IsStage h
   unfolding IsLawful first_failure flights delivered state_after
   stage [] quiet lawful sound = inl (record { none = refl; done = fold_of_none job k.setup k.state })
-  stage (Deliver n p o m t ∷ h) quiet lawful sound = begins h n p o m t lawful.1.room (stage h quiet.1 lawful.0 sound)
+  stage (Deliver n p o m t ∷ h) quiet lawful sound = begins h n p o m t lawful.1.input lawful.1.room (stage h quiet.1 lawful.0 sound)
   stage (Did n i act answer ∷ h) quiet lawful sound = acts h n i act answer lawful.1 (stage h quiet.1 lawful.0 sound)
   stage (Complete n ∷ h) quiet lawful sound = completes h n lawful.1 (stage h quiet.1 lawful.0 sound)
   stage (Failed f ∷ h) quiet lawful sound = absurd (not_sound (first_failure h) f sound)
   stage (WindowDid i act answer ∷ h) quiet lawful sound = absurd cc
   stage (WindowEnded ∷ h) quiet lawful sound = absurd cc
+
+  -- nothing is in flight any more, and the one that failed was the last
+  record IsOver (h : List Event) (f : Failure) : Type 0 where
+    pub none : flights k.setup h ≡ []
+    pub last : IsNotExpired f.why → IsOfLast job k h f
+
+  -- what the job leaves of a message at an act that fails it
+  failed_run : (e : Envelope) (state : State) (answers : List Answer) (act : Act) (why : Why) → act ≡ job.act e answers → course k.setup (length answers) act ≡ Some (Some why)
+      → run_on job k.setup e (1023 - length answers) state answers ≡ record { state = state; end = Some why }
+  failed_run e state answers act why of_job is = elim (fails_by (length answers) (end_at k.setup act) why is) [
+    | inl at ↦ turn_ends job k.setup e state answers (1023 - length answers) act (Some why) of_job at
+    | inr over ↦
+        turn_is_over job k.setup e state answers (1023 - length answers) act of_job over.0 (omega (arith, over.1))
+        ∙ ap (λ (w : Why). record { state = state; end = Some w }) over.2
+  ]
+
+  fails : (h : List Event) (n : ℕ) (f : Failure) (g : Flight) → MayAct k h n (Failed f) → IsBusy h g → IsOfLast job k (Failed f ∷ h) f
+  unfolding delivered state_after
+  fails h n f g may busy =
+      let state = state_after k.state h in
+      let on = acts_on h g n (Failed f) busy.one may in
+      let is = failed_is g state on.act (course k.setup (length g.answers) on.act) f on.event in
+      let run : runs job k.setup g.envelope busy.state ≡ record { state = state; end = Some f.why } =
+      busy.so_far ∙ failed_run g.envelope state g.answers on.act f.why on.of_job is.0 in
+      record {
+        before = busy.earlier_ones;
+        last = g.envelope;
+        all = busy.last;
+        state = busy.state;
+        done = busy.done;
+        why = ap (λ (r : Run). r.end) run;
+        left = ap (λ (r : Run). r.state) run;
+        input = g.input;
+        among = busy.among;
+        ssp = busy.ssp;
+        place = ap (λ (x : Failure). x.place) is.1;
+      }
+
+  is_expired : (h : List Event) (n : ℕ) (f : Failure) → MayExpire k h n f → IsNotExpired f.why → ⊥
+  is_expired h n f may not = subst (λ (x : Failure). IsNotExpired x.why) may.failure not
+
+  taken_out : (h : List Event) (n : ℕ) (f g : Flight) → flight_of n (flights k.setup h) ≡ Some g → IsBusy h f → without n (flights k.setup h) ≡ []
+  taken_out h n f g flies busy = ap (without n) busy.one ∙ without_one n f (the_one n f g (sym (ap (flight_of n) busy.one) ∙ flies)).0
+
+  none_flies : (n : ℕ) (fs : List Flight) (f : Flight) → fs ≡ [] → flight_of n fs ≡ Some f → ⊥
+  none_flies n fs f none flies = none-some f (sym (ap (flight_of n) none) ∙ flies)
+
+  none_fails : (h : List Event) (f : Failure) (turn : Turn) → is_window turn ≡ false → MayFail k h f turn → flights k.setup h ≡ [] → ⊥
+  none_fails h f (Call n) quiet (inl may) none = no_flight n h (Failed f) none may
+  none_fails h f (Call n) quiet (inr may) none = none_flies n (flights k.setup h) may.flight none may.flies
+  none_fails h f Window quiet may none = absurd cc
+
+  ends : (h : List Event) (f : Failure) (turn : Turn) → is_window turn ≡ false → MayFail k h f turn → IsStage h → (without_turn turn (flights k.setup h) ≡ []) × (IsNotExpired f.why → IsOfLast job k (Failed f ∷ h) f)
+  ends h f Window quiet may stands = absurd cc
+  ends h f (Call n) quiet may (inl idle) = absurd (none_fails h f (Call n) quiet may idle.none)
+  ends h f (Call n) quiet (inl may) (inr (g, busy)) = (taken_out h n g may.flight may.flies busy, λ _. fails h n f g may busy)
+  ends h f (Call n) quiet (inr may) (inr (g, busy)) = (taken_out h n g may.flight may.flies busy, λ not. absurd (is_expired h n f may not))
+
+  over : (h : List Event) → HasNoWindows None h → IsLawful k h → (f : Failure) → first_failure h ≡ Some f → IsOver h f
+  unfolding IsLawful first_failure flights
+  over [] quiet lawful f is = absurd (none-some f is)
+  over (Deliver n p o m t ∷ h) quiet lawful f is = absurd (none-some f (sym lawful.1.sound ∙ is))
+  over (Did n i act answer ∷ h) quiet lawful f is = absurd (no_flight n h (Did n i act answer) (over h quiet.1 lawful.0 f is).none lawful.1)
+  over (Complete n ∷ h) quiet lawful f is = absurd (no_flight n h (Complete n) (over h quiet.1 lawful.0 f is).none lawful.1)
+  over (Failed g ∷ h) quiet lawful f is = elim (first_of (first_failure h) g f is) [
+    | inl now ↦
+        let end = ends h g g.turn quiet.0 lawful.1 (stage h quiet.1 lawful.0 now.0) in
+        subst (IsOver (Failed g ∷ h)) now.1 (record { none = end.0; last = end.1 })
+    | inr before ↦ absurd (none_fails h g g.turn quiet.0 lawful.1 (over h quiet.1 lawful.0 f before).none)
+  ]
+  over (WindowDid i act answer ∷ h) quiet lawful f is = absurd cc
+  over (WindowEnded ∷ h) quiet lawful f is = absurd cc
 
   pub folded : (h : List Event) → HasNoWindows None h → IsLawful k h → flights k.setup h ≡ [] → first_failure h ≡ None → folds job k.setup (delivered k.setup h) k.state ≡ Some (state_after k.state h)
   folded h quiet lawful idle sound = at_end (stage h quiet lawful sound)
@@ -185,3 +237,7 @@ module _ (job : Meaning) (k : Given) (told : k.job ≡ Some job) (alone : k.setu
       at_end : IsStage h → folds job k.setup (delivered k.setup h) k.state ≡ Some (state_after k.state h)
       at_end (inl stands) = stands.done
       at_end (inr (f, busy)) = absurd (omega (arith, ap length (sym idle ∙ busy.one)))
+
+pub failure_is_the_folds : (job : Meaning) (k : Given) (h : List Event) (f : Failure) → k.job ≡ Some job → k.setup.concurrency ≡ 1 → HasNoWindows None h
+    → IsLawful k h → first_failure h ≡ Some f → IsNotExpired f.why → IsOfLast job k h f
+failure_is_the_folds job k h f told alone quiet lawful is not = (over job k told alone h quiet lawful f is).last not
