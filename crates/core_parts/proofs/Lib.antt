@@ -1,3 +1,4 @@
+mod Flushed
 mod Noted
 mod Trimming
 mod Undone

@@ -1,9 +1,10 @@
 // What a task holds in memory: its stores, and what its outputs were sent.
-ghost use Rattle.std.specs.Prelude.{◌≡◌, ◌<◌, ◌≤◌, length, true, Some, None, IfOk, IfSome, OnOk, OnErr};
+ghost use Rattle.std.specs.Prelude.{ℕ, ◌≡◌, ◌<◌, ◌≤◌, length, true, Some, None, IfOk, IfSome, OnOk, OnErr};
 ghost use Rattle.std.specs.FinMap as map;
 ghost use Rattle.samza_model.specs.declared.acts.Act.{Act};
 ghost use Rattle.samza_model.specs.Content.{answer_of, found, found_pair, next_pair};
 ghost use Rattle.samza_model.specs.Limits.{act_fits, IsWithinLimits};
+ghost use Rattle.kv_store.specs.Tracked.{no_keys};
 ghost use Rattle.core_steps.specs.Cores.{IsCleared};
 ghost use Rattle.core_steps.specs.Held.{state_of, tracked_at, contents_of, with_stored, with_sent, held_after, IsSized};
 
@@ -178,7 +179,9 @@ impl Holdings {
 }
 
 fn flush_all(stores: &mut Vec<TrackedTable>)
-    ensures { contents_of stores.new.items ≡ contents_of stores.old.items }
+    ensures contents { contents_of stores.new.items ≡ contents_of stores.old.items }
+    ensures clean { (i : ℕ) → i < length stores.new.items
+        → (tracked_at stores.new.items i).dirty ≡ no_keys }
 {
     for i in 0..stores.len() {
         stores[i].flushed();

@@ -8,13 +8,15 @@ use Rattle.samza_model.specs.declared.messages.Record.{Record}
 use Rattle.samza_model.specs.declared.setups.Setup.{Setup}
 use Rattle.samza_model.specs.declared.acts.Answer.{Answer}
 use Rattle.samza_model.specs.declared.flights.Flight.{Flight}
-use Rattle.samza_model.specs.Content.{Content, State, sent_at, store_at}
+use Rattle.samza_model.specs.Content.{Content, State, nothing_stored, sent_at, store_at}
 use Rattle.samza_model.specs.Events.{state_after}
 use Rattle.samza_model.specs.Ran.{fresh}
-use Rattle.kv_store.specs.Tracked.{Tracked}
+use Rattle.std.proofs.lemmas.List.Elements.{All-get_or}
+use Rattle.kv_store.specs.Tracked.{Tracked, no_keys}
 use Rattle.offset_window.specs.Windows.{Window, next_of}
 use Rattle.callback_manager.specs.Callbacks.{CallbacksValue}
-use Rattle.core_steps.specs.Begun.{AreUnsent}
+use Rattle.core_steps.specs.Begun.{AreClean, AreUnsent}
+use Rattle.core_steps.specs.Changes.{changed_in}
 use Rattle.core_steps.specs.Cores.{CoreValue, Outside, IsCore, IsHeld, IsIdle, Stands}
 use Rattle.core_steps.specs.Held.{Held, IsSized, contents_of}
 use Rattle.core_steps.specs.Lanes.{lane_at, left, between, begun_lane, IsOpenAt, AreApart}
@@ -72,14 +74,15 @@ nothing_sent [] (suc j) = refl
 nothing_sent (x ∷ xs) zero = refl
 nothing_sent (x ∷ xs) (suc j) = nothing_sent xs j
 
-pub begins_held : (s : Setup) (tables : List Content) (h : Held) → contents_of h.stores ≡ tables → AreUnsent (length s.outputs) h → IsHeld (fresh s tables) [] 0 h
-unfolding state_after
-begins_held s tables h contents unsent = record {
+pub begins_held : (s : Setup) (tables : List Content) (h : Held) → contents_of h.stores ≡ tables → AreClean h.stores → AreUnsent (length s.outputs) h → IsHeld (fresh s tables) [] 0 h
+unfolding state_after changed_in
+begins_held s tables h contents none_dirty unsent = record {
   stores = sym contents;
   as_many = length-map s.outputs (λ _. []) ∙ sym unsent.outputs;
   sent = λ j. sym (append-nil (sent_at (fresh s tables).sent j)) ∙ ap (λ (l : List Record). sent_at (fresh s tables).sent j ++ l) (sym (none j (lt_cases j (length s.outputs))));
   cleared = λ j lt. unsent.none_before j (omega (arith, lt, unsent.outputs)) ∙ sym (ap length (nothing_sent s.outputs j));
   clean = λ i lt key dirty. ap (λ (c : Content). fin.get c key) (ap (λ (cs : List Content). store_at cs i) (sym contents) ∙ content_at h.stores i lt);
+  dirty = λ i lt. All-get_or (λ (t : Tracked). t.dirty ≡ no_keys) h.stores i (record { content = nothing_stored; dirty = no_keys }) lt none_dirty;
 }
   where
     lt_cases : (a b : ℕ) → (a < b) ⊎ (b ≤ a)
@@ -89,7 +92,7 @@ begins_held s tables h contents unsent = record {
     none j (inl lt) = unsent.none j lt
     none j (inr le) = get_or_past h.unsent j [] (omega (arith, le, unsent.outputs))
 
-pub begins_standing : (u : CoreValue) (o : Outside) (tables : List Content) → IsFresh u → u.lanes ≡ map (begun_lane u.setup.span) u.starts → contents_of u.held.stores ≡ tables → AreUnsent (length u.setup.outputs) u.held
+pub begins_standing : (u : CoreValue) (o : Outside) (tables : List Content) → IsFresh u → u.lanes ≡ map (begun_lane u.setup.span) u.starts → contents_of u.held.stores ≡ tables → AreClean u.held.stores → AreUnsent (length u.setup.outputs) u.held
     → o.state ≡ fresh u.setup tables → Stands o u [] 0
-begins_standing u o tables is_fresh lanes contents unsent state =
-    fresh_stands u o is_fresh (subst (λ (s : State). IsHeld s [] 0 u.held) (sym state) (begins_held u.setup tables u.held contents unsent)) (λ p lt. lane_begun u.setup.span u.starts u.lanes p lanes lt)
+begins_standing u o tables is_fresh lanes contents clean unsent state =
+    fresh_stands u o is_fresh (subst (λ (s : State). IsHeld s [] 0 u.held) (sym state) (begins_held u.setup tables u.held contents clean unsent)) (λ p lt. lane_begun u.setup.span u.starts u.lanes p lanes lt)

@@ -23,8 +23,8 @@ use Rattle.output_log.specs.Outputs.{Sent, IsCleared as AreCleared, cleared_at}
 use Rattle.samza_model.specs.Content.{sent_at}
 use Rattle.std.proofs.lemmas.List.{get_or_past}
 use Rattle.std.proofs.Common.{◌≤◌, ◌⊎◌, inl, inr}
-use Rattle.core_steps.specs.Held.{contents_of}
-use Rattle.kv_store.specs.Tracked.{Tracked}
+use Rattle.core_steps.specs.Held.{contents_of, tracked_at}
+use Rattle.kv_store.specs.Tracked.{Tracked, no_keys}
 use Rattle.callback_manager.specs.Callbacks.{CallbacksValue, entry_of}
 use Rattle.callback_manager.specs.declared.callbacks.Entry.{Entry}
 use Rattle.samza_model.specs.declared.acts.Act.TheVariants.{Done}
@@ -46,6 +46,7 @@ deliver_adds (Ok x) u v p m core lt may is = subst (λ w. Adds (IsBody p (next_a
   times = refl;
   last = refl;
   journal = refl;
+  window = λ _. refl;
   history = λ o h a body s. deliver_stands u p m core lt may o h a body s;
 })
 deliver_adds (Err e) u v p m core lt may is = tt
@@ -112,6 +113,7 @@ act_adds u v n f act core flies goes is = subst (λ w. Adds (IsCallAct f act) u 
   times = refl;
   last = refl;
   journal = refl;
+  window = λ _. refl;
   history = λ o h a of_job s. act_stands u n f act core flies goes o h a of_job s;
 })
 
@@ -193,6 +195,7 @@ complete_adds u v n f core flies is = subst (λ w. Adds (IsCallAct f Done) u w (
   times = refl;
   last = refl;
   journal = refl;
+  window = λ _. refl;
   history = λ o h a of_job s. complete_stands u n f Done core flies refl o h a of_job s;
 })
 
@@ -233,19 +236,21 @@ failure_adds u v n f act why core flies ends is = subst (λ w. Adds (IsCallAct f
   times = refl;
   last = refl;
   journal = refl;
+  window = λ _. refl;
   history = λ o h a of_job s. failure_stands u n f act why core flies ends o h a of_job s;
 })
 
 -- a mark is made
 
-pub cleared_is : (old : Held) (stores : List Tracked) (o o' : Sent) → contents_of stores ≡ contents_of old.stores → o ≡ record { unsent = old.unsent; cleared = old.cleared } → AreCleared o o' → IsCleared old (record { stores = stores; unsent = o'.unsent; cleared = o'.cleared })
-cleared_is old stores o o' same is cleared =
+pub cleared_is : (old : Held) (stores : List Tracked) (o o' : Sent) → contents_of stores ≡ contents_of old.stores → ((i : ℕ) → i < length stores → (tracked_at stores i).dirty ≡ no_keys) → o ≡ record { unsent = old.unsent; cleared = old.cleared } → AreCleared o o' → IsCleared old (record { stores = stores; unsent = o'.unsent; cleared = o'.cleared })
+cleared_is old stores o o' same clean is cleared =
     let at = subst (λ (x : Sent). AreCleared x o') is cleared in
     record {
       stores = same;
       as_many = at.as_many;
       none = λ j. by_place j (lt_cases j (length old.unsent)) at.none at.as_many;
       counted = at.counted;
+      clean = clean;
     }
   where
     lt_cases : (a b : ℕ) → (a < b) ⊎ (b ≤ a)
@@ -290,5 +295,6 @@ commits u v held core cleared is = subst (Commits u) (sym is) (record {
   times = refl;
   last = refl;
   journal = refl;
+  window = refl;
   history = λ o h a s. commit_stands u held core cleared o h a s;
 })

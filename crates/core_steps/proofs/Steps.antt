@@ -25,9 +25,10 @@ use Rattle.samza_model.specs.declared.acts.Scope.{Scope}
 use Rattle.samza_model.specs.declared.acts.Scope.TheVariants.{CurrentTask, AllTasks}
 use Rattle.samza_model.specs.Requests.{greater_scope, shutdown_of, shutdown_asked}
 use Rattle.samza_model.specs.Journals.{kept_of}
-use Rattle.kv_store.specs.Tracked.{Tracked, no_keys, with_change, AgreesOnClean}
+use Rattle.kv_store.specs.Tracked.{Tracked, Keys, no_keys, with_change, with_key, AgreesOnClean}
 use Rattle.kv_store.proofs.Laws.{AgreesOnClean-more}
 use Rattle.offset_window.specs.Windows.{Window, next_of, is_inside, is_done, delivered, completed}
+use Rattle.core_steps.specs.Changes.{changed_in, with_act}
 use Rattle.core_steps.specs.Held.{Held, IsSized, tracked_at, contents_of, state_of, held_after}
 use Rattle.core_steps.specs.Lanes.{lane_at, IsLane, IsOpenAt, AreApart}
 use Rattle.core_steps.specs.Cores.{CoreValue, Outside, given, IsIdle, IsCore, IsHeld, IsWindow, Stands, MayBegin, next_at, IsBody, IsCallAct, IsWinAct, deliver_event, act_event, window_act_event, after_deliver, after_act, after_complete, after_failure, after_window_act, after_window_end, after_window_failure, after_open_window, after_commit, uncovered_now, IsCleared}
@@ -83,13 +84,14 @@ still_clean : (state : State) (h : List Event) (e : Event) (a i : ℕ) (t : Trac
 still_clean state h e a i t le agrees = subst (λ (g : List Event). AgreesOnClean t (store_at (state_after state g).stores i)) (sym (older_more a h e le)) agrees
 
 -- what an event that changes no state leaves
-held_same : (state : State) (h : List Event) (e : Event) (a : ℕ) (held : Held) → state_after state (e ∷ h) ≡ state_after state h → a ≤ length h → IsHeld state h a held → IsHeld state (e ∷ h) a held
-held_same state h e a held same le is = record {
+held_same : (state : State) (h : List Event) (e : Event) (a : ℕ) (held : Held) → state_after state (e ∷ h) ≡ state_after state h → ((i : ℕ) (g : List Event) → changed_in i (e ∷ g) ≡ changed_in i g) → a ≤ length h → IsHeld state h a held → IsHeld state (e ∷ h) a held
+held_same state h e a held same unchanged le is = record {
   stores = ap (λ (s : State). s.stores) same ∙ is.stores;
   as_many = ap (λ (s : State). length s.sent) same ∙ is.as_many;
   sent = λ j. ap (λ (s : State). sent_at s.sent j) same ∙ is.sent j ∙ ap (λ (g : List Event). sent_at (state_after state g).sent j ++ sent_at held.unsent j) (sym (older_more a h e le));
   cleared = λ j l. is.cleared j l ∙ ap (λ (g : List Event). length (sent_at (state_after state g).sent j)) (sym (older_more a h e le));
   clean = λ i l. still_clean state h e a i (tracked_at held.stores i) le (is.clean i l);
+  dirty = λ i l. is.dirty i l ∙ sym (unchanged i (newer a h)) ∙ ap (λ (g : List Event). changed_in i g) (sym (newer_more a h e le));
 }
 
 answer_same : (s t : State) (act : Act) → s.stores ≡ t.stores → answer_of s act ≡ answer_of t act
@@ -162,14 +164,30 @@ store_in i n m rest fits same =
 -- the stores are changed, and nothing is sent
 stores_changed : (state : State) (h : List Event) (e : Event) (a : ℕ) (held : Held) (stores : List Tracked) → (state_after state (e ∷ h)).stores ≡ contents_of stores → (state_after state (e ∷ h)).sent ≡ (state_after state h).sent → a ≤ length h
     → ((i : ℕ) (c : Content) → i < length stores → ((i < length held.stores) → AgreesOnClean (tracked_at held.stores i) c) → AgreesOnClean (tracked_at stores i) c)
+    → ((i : ℕ) → i < length stores → ((i < length held.stores) → (tracked_at held.stores i).dirty ≡ changed_in i (newer a h)) → (tracked_at stores i).dirty ≡ changed_in i (e ∷ newer a h))
     → IsHeld state h a held → IsHeld state (e ∷ h) a (record { stores = stores; unsent = held.unsent; cleared = held.cleared })
-stores_changed state h e a held stores now same le clean is = record {
+stores_changed state h e a held stores now same le clean dirty is = record {
   stores = now;
   as_many = ap length same ∙ is.as_many;
   sent = λ j. ap (λ l. sent_at l j) same ∙ is.sent j ∙ ap (λ (g : List Event). sent_at (state_after state g).sent j ++ sent_at held.unsent j) (sym (older_more a h e le));
   cleared = λ j l. is.cleared j l ∙ ap (λ (g : List Event). length (sent_at (state_after state g).sent j)) (sym (older_more a h e le));
   clean = λ i l. still_clean state h e a i (tracked_at stores i) le (clean i (store_at (state_after state (older a h)).stores i) l (λ lt. is.clean i lt));
+  dirty = λ i l. dirty i l (λ lt. is.dirty i lt) ∙ ap (λ (g : List Event). changed_in i g) (sym (newer_more a h e le));
 }
+
+-- the keys that are dirty behind a change of a store
+stored_dirty : (stores : List Tracked) (i k : ℕ) (key : List ℕ) (value : Option (List ℕ)) (keys : Keys) → i < length stores → k < length (set stores i (with_change (tracked_at stores i) key value))
+    → (k < length stores → (tracked_at stores k).dirty ≡ keys) → (tracked_at (set stores i (with_change (tracked_at stores i) key value)) k).dirty ≡ (if i == k then with_key keys key else keys)
+stored_dirty stores i k key value keys lt inside was =
+    let d : Tracked = record { content = nothing_stored; dirty = no_keys } in
+    let t = with_change (tracked_at stores i) key value in
+    let before = was (omega (arith, inside, length-set stores i t)) in
+    elim (cases_eq i k) [
+      | inl e ↦ rw (eq-eqb i k e)
+          (ap (λ (x : Tracked). x.dirty) (ap (λ (n : ℕ). get_or (set stores i t) n d) (sym e) ∙ get_or-set_same stores i t d lt)
+          ∙ ap (λ (n : ℕ). with_key (tracked_at stores n).dirty key) e ∙ ap (λ (ks : Keys). with_key ks key) before)
+      | inr ne ↦ rw (ne_eqb i k ne) (ap (λ (x : Tracked). x.dirty) (get_or-set_other stores i k t d (λ e. ne (sym e))) ∙ before)
+    ]
 
 stored_clean : (stores : List Tracked) (i k : ℕ) (key : List ℕ) (value : Option (List ℕ)) (c : Content) → i < length stores → k < length (set stores i (with_change (tracked_at stores i) key value))
     → (k < length stores → AgreesOnClean (tracked_at stores k) c) → AgreesOnClean (tracked_at (set stores i (with_change (tracked_at stores i) key value)) k) c
@@ -185,20 +203,23 @@ stored_clean stores i k key value c lt inside was =
     ]
 
 -- what an act leaves
-held_act : (setup : Setup) (state : State) (h : List Event) (e : Event) (a : ℕ) (held : Held) (act : Act) → act_fits setup act ≡ true → IsSized setup held → state_after state (e ∷ h) ≡ changed (state_after state h) act → a ≤ length h
+held_act : (setup : Setup) (state : State) (h : List Event) (e : Event) (a : ℕ) (held : Held) (act : Act) → act_fits setup act ≡ true → IsSized setup held → state_after state (e ∷ h) ≡ changed (state_after state h) act
+    → ((i : ℕ) (g : List Event) → changed_in i (e ∷ g) ≡ with_act i (changed_in i g) act) → a ≤ length h
     → IsHeld state h a held → IsHeld state (e ∷ h) a (held_after held act)
 unfolding changed
-held_act setup state h e a held (Put i key value) fits sized same le is =
+held_act setup state h e a held (Put i key value) fits sized same more le is =
     let lt = store_in i (length setup.stores) (length held.stores) _ (and_left _ _ fits) sized.stores in
     stores_changed state h e a held (set held.stores i (with_change (tracked_at held.stores i) key (Some value)))
     (ap (λ (s : State). s.stores) same ∙ ap (λ c. set c i (updated (store_at c i) key (Some value))) is.stores ∙ stored held.stores i key (Some value) lt)
-    (ap (λ (s : State). s.sent) same) le (λ k c inside was. stored_clean held.stores i k key (Some value) c lt inside was) is
-held_act setup state h e a held (Delete i key) fits sized same le is =
+    (ap (λ (s : State). s.sent) same) le (λ k c inside was. stored_clean held.stores i k key (Some value) c lt inside was)
+    (λ k inside was. stored_dirty held.stores i k key (Some value) (changed_in k (newer a h)) lt inside was ∙ sym (more k (newer a h))) is
+held_act setup state h e a held (Delete i key) fits sized same more le is =
     let lt = store_in i (length setup.stores) (length held.stores) _ fits sized.stores in
     stores_changed state h e a held (set held.stores i (with_change (tracked_at held.stores i) key None))
     (ap (λ (s : State). s.stores) same ∙ ap (λ c. set c i (updated (store_at c i) key None)) is.stores ∙ stored held.stores i key None lt)
-    (ap (λ (s : State). s.sent) same) le (λ k c inside was. stored_clean held.stores i k key None c lt inside was) is
-held_act setup state h e a held (Send j body) fits sized same le is =
+    (ap (λ (s : State). s.sent) same) le (λ k c inside was. stored_clean held.stores i k key None c lt inside was)
+    (λ k inside was. stored_dirty held.stores i k key None (changed_in k (newer a h)) lt inside was ∙ sym (more k (newer a h))) is
+held_act setup state h e a held (Send j body) fits sized same more le is =
     let lt = store_in j (length setup.outputs) (length held.unsent) _ (and_left _ _ fits) sized.outputs in
     let all = (state_after state h).sent in
     let grown = set all j (sent_at all j ++ body ∷ []) in
@@ -211,16 +232,17 @@ held_act setup state h e a held (Send j body) fits sized same le is =
           ∙ ap (λ (g : List Event). sent_at (state_after state g).sent k ++ sent_at (set held.unsent j (sent_at held.unsent j ++ body ∷ [])) k) (sym (older_more a h e le));
       cleared = λ k l. is.cleared k (omega (arith, l, length-set held.unsent j (sent_at held.unsent j ++ body ∷ []))) ∙ ap (λ (g : List Event). length (sent_at (state_after state g).sent k)) (sym (older_more a h e le));
       clean = λ k l. still_clean state h e a k (tracked_at held.stores k) le (is.clean k l);
+      dirty = λ k l. is.dirty k l ∙ sym (more k (newer a h)) ∙ ap (λ (g : List Event). changed_in k g) (sym (newer_more a h e le));
     }
-held_act setup state h e a held (Get i key) fits sized same le is = held_same state h e a held same le is
-held_act setup state h e a held (Next i key) fits sized same le is = held_same state h e a held same le is
-held_act setup state h e a held (AskCommit scope) fits sized same le is = held_same state h e a held same le is
-held_act setup state h e a held (AskShutdown scope) fits sized same le is = held_same state h e a held same le is
-held_act setup state h e a held Done fits sized same le is = held_same state h e a held same le is
-held_act setup state h e a held (Fail code) fits sized same le is = held_same state h e a held same le is
+held_act setup state h e a held (Get i key) fits sized same more le is = held_same state h e a held same more le is
+held_act setup state h e a held (Next i key) fits sized same more le is = held_same state h e a held same more le is
+held_act setup state h e a held (AskCommit scope) fits sized same more le is = held_same state h e a held same more le is
+held_act setup state h e a held (AskShutdown scope) fits sized same more le is = held_same state h e a held same more le is
+held_act setup state h e a held Done fits sized same more le is = held_same state h e a held same more le is
+held_act setup state h e a held (Fail code) fits sized same more le is = held_same state h e a held same more le is
 
 pub act_stands : ActStands
-unfolding flights deliveries deliveries_of is_covered first_failure window_open window_answers state_after IsLawful
+unfolding flights deliveries deliveries_of is_covered first_failure window_open window_answers state_after changed_in IsLawful
 act_stands u n f act core flies goes o h a of_job s =
     let e = act_event u f act in
     let number = number_is n u.callbacks.flights f flies in
@@ -238,7 +260,7 @@ act_stands u n f act core flies goes o h a of_job s =
       number = s.number;
       flies = ap (answered f.number (answer_of (state_of u.held) act)) s.flies;
       lanes = s.lanes;
-      held = held_act u.setup o.state h e a u.held act (fits_goes_on u.setup (length f.answers) act goes) core.sized refl s.within s.held;
+      held = held_act u.setup o.state h e a u.held act (fits_goes_on u.setup (length f.answers) act goes) core.sized refl (λ i g. refl) s.within s.held;
       failed = s.failed;
       window = window_kept u.window s.window;
       asked = ap (λ x. greater_scope x (shutdown_of (Some act))) s.asked;
@@ -255,7 +277,7 @@ no_window : Window
 no_window = record { low = 0; done = []; span = 0 }
 
 pub deliver_stands : DeliverStands
-unfolding flights deliveries deliveries_of is_covered first_failure window_open window_answers state_after IsLawful
+unfolding flights deliveries deliveries_of is_covered first_failure window_open window_answers state_after changed_in IsLawful
 deliver_stands u p m core lt may o h a body s =
     let k = given o u in
     let e = deliver_event u p m in
@@ -281,7 +303,7 @@ deliver_stands u p m core lt may o h a body s =
         | inl same ↦ subst (λ r. IsLane (λ x. is_covered u.setup r x h) (start_at k r) (start_at k r + (if p == r then deliveries_of r h + 1 else deliveries_of r h)) (lane_at (set u.lanes p (delivered w)) r)) (sym same) (here lane)
         | inr ne ↦ other q ne (s.lanes q within)
       ];
-      held = held_same o.state h e a u.held refl s.within s.held;
+      held = held_same o.state h e a u.held refl (λ i g. refl) s.within s.held;
       failed = s.failed;
       window = window_kept u.window s.window;
       asked = s.asked ∙ sym (asks_no_more (shutdown_asked h));
@@ -352,7 +374,7 @@ at_other_input : (f : Flight) (q x : ℕ) → q ≢ f.input → is_at q x (Some 
 at_other_input f q x ne = rw (ne_eqb f.input q (λ e. ne (sym e))) refl
 
 pub complete_stands : CompleteStands
-unfolding flights deliveries deliveries_of is_covered first_failure window_open window_answers state_after IsLawful
+unfolding flights deliveries deliveries_of is_covered first_failure window_open window_answers state_after changed_in IsLawful
 complete_stands u n f act core flies ends o h a of_job s =
     let k = given o u in
     let e : Event = Complete f.number in
@@ -375,7 +397,7 @@ complete_stands u n f act core flies ends o h a of_job s =
             (here found is_open (s.lanes f.input (subst (λ r. r < length u.starts) same within)))
         | inr ne ↦ other q ne found (s.lanes q within)
       ];
-      held = held_same o.state h e a u.held refl s.within s.held;
+      held = held_same o.state h e a u.held refl (λ i g. refl) s.within s.held;
       failed = s.failed;
       window = window_kept u.window s.window;
       asked = s.asked ∙ sym (asks_no_more (shutdown_asked h));
@@ -417,7 +439,7 @@ earlier_some None f e = search rules
 earlier_some (Some g) f e = search rules
 
 pub failure_stands : FailureStands
-unfolding flights deliveries deliveries_of is_covered first_failure window_open window_answers state_after IsLawful
+unfolding flights deliveries deliveries_of is_covered first_failure window_open window_answers state_after changed_in IsLawful
 failure_stands u n f act why core flies ends o h a of_job s =
     let k = given o u in
     let e : Event = Failed (failure_of f why) in
@@ -435,7 +457,7 @@ failure_stands u n f act why core flies ends o h a of_job s =
       number = s.number;
       flies = ap (without f.number) s.flies;
       lanes = s.lanes;
-      held = held_same o.state h e a u.held refl s.within s.held;
+      held = held_same o.state h e a u.held refl (λ i g. refl) s.within s.held;
       failed = ap (λ x. earlier x (failure_of f why)) s.failed;
       window = window_kept u.window s.window;
       asked = s.asked ∙ sym (asks_no_more (shutdown_asked h));
@@ -465,7 +487,7 @@ module _ (u : CoreValue) (answers : List Answer) (act : Act) (core : IsCore u) (
   }
 
 pub window_act_stands : WindowActStands
-unfolding flights deliveries deliveries_of is_covered first_failure window_open window_answers state_after IsLawful
+unfolding flights deliveries deliveries_of is_covered first_failure window_open window_answers state_after changed_in IsLawful
 window_act_stands u answers act core is goes_on o h a of_job s =
     let e = window_act_event u answers act in
     let answer = answer_same (state_of u.held) (state_after o.state h) act (sym s.held.stores) in
@@ -474,7 +496,7 @@ window_act_stands u answers act core is goes_on o h a of_job s =
       number = s.number;
       flies = s.flies;
       lanes = s.lanes;
-      held = held_act u.setup o.state h e a u.held act (fits_goes_on u.setup (length answers) act goes_on) core.sized refl s.within s.held;
+      held = held_act u.setup o.state h e a u.held act (fits_goes_on u.setup (length answers) act goes_on) core.sized refl (λ i g. refl) s.within s.held;
       failed = s.failed;
       window = ap (λ l. l ++ answer_of (state_of u.held) act ∷ []) (same_answers u answers act core is o h a of_job s);
       asked = ap (λ x. greater_scope x (shutdown_of (Some act))) s.asked;
@@ -484,7 +506,7 @@ window_act_stands u answers act core is goes_on o h a of_job s =
     }
 
 pub window_end_stands : WindowEndStands
-unfolding flights deliveries deliveries_of is_covered first_failure window_open window_answers state_after IsLawful
+unfolding flights deliveries deliveries_of is_covered first_failure window_open window_answers state_after changed_in IsLawful
 window_end_stands u answers act core is ends o h a of_job s =
     let e : Event = WindowEnded in
     record {
@@ -492,7 +514,7 @@ window_end_stands u answers act core is ends o h a of_job s =
       number = s.number;
       flies = s.flies;
       lanes = s.lanes;
-      held = held_same o.state h e a u.held refl s.within s.held;
+      held = held_same o.state h e a u.held refl (λ i g. refl) s.within s.held;
       failed = s.failed;
       window = (refl, λ _. refl);
       asked = s.asked ∙ sym (asks_no_more (shutdown_asked h));
@@ -502,7 +524,7 @@ window_end_stands u answers act core is ends o h a of_job s =
     }
 
 pub window_failure_stands : WindowFailureStands
-unfolding flights deliveries deliveries_of is_covered first_failure window_open window_answers state_after IsLawful
+unfolding flights deliveries deliveries_of is_covered first_failure window_open window_answers state_after changed_in IsLawful
 window_failure_stands u answers act why core is ends o h a of_job s =
     let e : Event = Failed (window_failure why) in
     record {
@@ -510,7 +532,7 @@ window_failure_stands u answers act why core is ends o h a of_job s =
       number = s.number;
       flies = s.flies;
       lanes = s.lanes;
-      held = held_same o.state h e a u.held refl s.within s.held;
+      held = held_same o.state h e a u.held refl (λ i g. refl) s.within s.held;
       failed = ap (λ x. earlier x (window_failure why)) (sym (idle u answers act core is o h a of_job s).1 ∙ s.failed);
       window = (refl, λ q. absurd (earlier_some (first_failure h) (window_failure why) q));
       asked = s.asked ∙ sym (asks_no_more (shutdown_asked h));
@@ -563,6 +585,7 @@ take_and_drop (suc n) [] = refl
 take_and_drop (suc n) (x ∷ xs) = ap (λ l. x ∷ l) (take_and_drop n xs)
 
 pub commit_stands : CommitStands
+unfolding changed_in
 commit_stands u held core cleared o h a s =
     let k = given o u in
     let g = newer a h in
@@ -586,6 +609,7 @@ commit_stands u held core cleared o h a s =
         cleared = λ j l. cleared.counted j (omega (arith, l, cleared.as_many)) ∙ counts j (s.held.sent j) (s.held.cleared j (omega (arith, l, cleared.as_many))) ∙ ap (λ (l : List Event). length (sent_at (state_after o.state l).sent j)) (sym whole);
         clean = λ i l key none_dirty. ap (λ (c : Content). fin.get c key)
             (ap (λ (l : List Event). store_at (state_after o.state l).stores i) whole ∙ ap (λ (cs : List Content). store_at cs i) (s.held.stores ∙ sym cleared.stores) ∙ content_at held.stores i l);
+        dirty = λ i l. cleared.clean i l ∙ ap (λ (g : List Event). changed_in i g) (sym (ap (λ n. take n h) none));
       };
       failed = s.failed;
       window = s.window;
@@ -604,7 +628,7 @@ commit_stands u held core cleared o h a s =
     counts j all before = omega (arith, before, ap length all, length-append (sent_at (state_after o.state (older a h)).sent j) (sent_at u.held.unsent j))
 
 pub fresh_stands : FreshStands
-unfolding flights deliveries deliveries_of is_covered first_failure window_open window_answers state_after IsLawful
+unfolding flights deliveries deliveries_of is_covered first_failure window_open window_answers state_after changed_in IsLawful
 fresh_stands u o fresh held lanes = record {
   lawful = tt;
   number = fresh.next;

@@ -1,5 +1,5 @@
 -- From what the parts of a core are after a window's call to what the core is.
-use Rattle.std.proofs.Common.{◌≡◌, ◌∷◌, ◌++◌, [], List, length, Option, Some, None, refl, sym, ◌∙◌, subst, is_some, true, false, rules}
+use Rattle.std.proofs.Common.{true≢false, ◌≡◌, ◌∷◌, ◌++◌, [], List, length, Option, Some, None, refl, sym, ◌∙◌, subst, is_some, true, false, rules}
 use Rattle.samza_model.specs.declared.acts.Act.{Act}
 use Rattle.samza_model.specs.declared.acts.Act.TheVariants.{Done}
 use Rattle.samza_model.specs.declared.acts.Answer.{Answer}
@@ -59,6 +59,7 @@ window_act_adds u v answers act core at goes is = subst (λ w. Adds (IsWinAct an
   times = refl;
   last = refl;
   journal = refl;
+  window = λ e. absurd (true≢false e);
   history = λ o h a of_job s. window_act_stands u answers act core at goes o h a of_job s;
 })
 
@@ -77,6 +78,7 @@ window_end_adds u v answers core at is = subst (λ w. Adds (IsWinAct answers Don
   times = refl;
   last = refl;
   journal = refl;
+  window = λ e. absurd (true≢false e);
   history = λ o h a of_job s. window_end_stands u answers Done core at refl o h a of_job s;
 })
 
@@ -96,6 +98,7 @@ window_failure_adds u v answers act why core at ends is = subst (λ w. Adds (IsW
   times = refl;
   last = refl;
   journal = refl;
+  window = λ e. absurd (true≢false e);
   history = λ o h a of_job s. window_failure_stands u answers act why core at ends o h a of_job s;
 })
 

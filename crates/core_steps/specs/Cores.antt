@@ -10,7 +10,7 @@ use Rattle.samza_model.specs.declared.setups.Setup.{Setup}
 use Rattle.samza_model.specs.declared.events.Event.{Event}
 use Rattle.samza_model.specs.declared.events.Event.TheVariants.{Deliver, Did, Complete, Failed, WindowDid, WindowEnded}
 use Rattle.samza_model.specs.Content.{State, sent_at, answer_of, store_at}
-use Rattle.kv_store.specs.Tracked.{AgreesOnClean}
+use Rattle.kv_store.specs.Tracked.{AgreesOnClean, no_keys}
 use Rattle.samza_model.specs.Meaning.{Meaning}
 use Rattle.samza_model.specs.Partition.{Partition, message}
 use Rattle.samza_model.specs.declared.flights.Flight.{Flight}
@@ -18,10 +18,12 @@ use Rattle.samza_model.specs.Events.{begun, flights, answered, without, deliveri
 use Rattle.samza_model.specs.Lawful.{Given, IsLawful, IsAct, IsWindowAct, start_at, part_at, failure_of, window_failure}
 use Rattle.samza_model.specs.declared.acts.Scope.{Scope}
 use Rattle.samza_model.specs.Journals.{kept_of, belongs, uncovered_by}
+use Rattle.samza_model.specs.Ran.{is_of_window}
 use Rattle.samza_model.specs.Requests.{greater_scope, shutdown_of, shutdown_asked}
 use Rattle.output_log.specs.Outputs.{cleared_at}
 use Rattle.offset_window.specs.Windows.{Window, next_of, delivered, completed}
 use Rattle.callback_manager.specs.Callbacks.{CallbacksValue}
+use Rattle.core_steps.specs.Changes.{changed_in}
 use Rattle.core_steps.specs.Held.{Held, IsSized, state_of, contents_of, held_after, tracked_at}
 use Rattle.window_timer.specs.declared.times.Times.{Times}
 use Rattle.window_timer.specs.Times.{window_begun, commit_made}
@@ -95,6 +97,8 @@ pub record IsHeld (state : State) (h : List Event) (a : ℕ) (held : Held) : Typ
   pub cleared : (j : ℕ) → j < length held.unsent → cleared_at held.cleared j ≡ length (sent_at (state_after state (older a h)).sent j)
   -- the content at the last mark is the store's at each key that isn't dirty
   pub clean : (i : ℕ) → i < length held.stores → AgreesOnClean (tracked_at held.stores i) (store_at (state_after state (older a h)).stores i)
+  -- and the keys that are dirty are those that the events since set or took away
+  pub dirty : (i : ℕ) → i < length held.stores → (tracked_at held.stores i).dirty ≡ changed_in i (newer a h)
 
 -- a window that is open has the answers since the last one ended
 abbrev pub IsWindow : List Event → Option (List Answer) → Type 0
@@ -122,6 +126,7 @@ pub record Adds (may : Outside → CoreValue → Type 0) (old new : CoreValue) (
   pub times : new.times ≡ old.times
   pub last : new.last ≡ old.last
   pub journal : new.since ≡ e ∷ old.since
+  pub window : is_of_window e ≡ false → new.window ≡ old.window
   pub history : (o : Outside) (h : List Event) (a : ℕ) → may o old → Stands o old h a → Stands o new (e ∷ h) a
 
 -- nothing but what no event says has changed
@@ -323,12 +328,13 @@ with_times u times =
 abbrev pub uncovered_now : CoreValue → List ℕ
 uncovered_now u = uncovered_by (λ p. (lane_at u.lanes p).low) (u.since ++ u.kept)
 
--- what was sent is counted and let go
+-- what was sent is counted and let go, and no key is dirty
 pub record IsCleared (old new : Held) : Type 0 where
   pub stores : contents_of new.stores ≡ contents_of old.stores
   pub as_many : length new.unsent ≡ length old.unsent
   pub none : (j : ℕ) → sent_at new.unsent j ≡ []
   pub counted : (j : ℕ) → j < length old.unsent → cleared_at new.cleared j ≡ cleared_at old.cleared j + length (sent_at old.unsent j)
+  pub clean : (i : ℕ) → i < length new.stores → (tracked_at new.stores i).dirty ≡ no_keys
 
 -- a mark was made
 abbrev pub after_commit : CoreValue → Held → CoreValue
@@ -355,4 +361,5 @@ pub record Commits (old new : CoreValue) : Type 0 where
   pub times : new.times ≡ commit_made old.times
   pub last : new.last ≡ old.last + 1
   pub journal : new.since ≡ []
+  pub window : new.window ≡ old.window
   pub history : (o : Outside) (h : List Event) (a : ℕ) → Stands o old h a → Stands o new h (length h)

@@ -1,4 +1,5 @@
 pub mod Begun
+pub mod Changes
 pub mod Cores
 pub mod Held
 pub mod Lanes

@@ -47,6 +47,7 @@ opens_at tells reads images k s tables before disk mark setup state h told here 
       marks = λ had log. same_log before (reads disk) _ had (h.stay told (reads disk) here).marks log;
       all = λ i records lt log. h.whole told i records (subst (λ (x : Setup). i < length x.stores) setup lt) log ∙ ap (λ (cs : List Content). store_at cs i) stores;
       none = λ j. ap (λ (x : State). sent_at x.sent j) state ∙ nothing_sent s.outputs j;
+      stay = subst (λ (x : Setup). LogsStay x mark before (reads disk)) (sym setup) (h.stay told (reads disk) here);
     }
 
 module _ {P D S : Type 0} (meaning : P → Meaning) (tells : Type 0) (reads : D → Image) (number : D → ℕ) (images : D → Image → Type 0) (since : D → ℕ → Image → Type 0)

@@ -15,6 +15,7 @@ ghost use Rattle.core_steps.specs.Held.{contents_of};
 ghost use Rattle.core_steps.specs.Laws.{IsFresh};
 ghost use Rattle.core_steps.specs.Setups.{IsRunnable};
 ghost use Rattle.restore_trim.specs.Crashes.{OpeningLeaves};
+ghost use Rattle.restore_trim.specs.Refused.{StoresOpen};
 ghost use Rattle.restore_trim.specs.Standing.{OthersStay};
 ghost use Rattle.unit_logs.specs.Standing.{IsSetUp};
 ghost use Rattle.unit_opening.specs.Inputs.{input_of};
@@ -165,6 +166,8 @@ impl<'j, J: Job, D: Disk, S: Shelf> TaskUnit<'j, J, D, S> {
             (opened_history (D.reads disk))) }
         ensures restored { IfOk result (λ u. D.tells
             → Restores setup (D.reads disk) (last_mark u.marks) (contents_of u.core.held.stores)) }
+        ensures opens { IfOk result (λ u. D.tells
+            → StoresOpen (D.reads disk) (last_mark u.marks) (length setup.stores)) }
         ensures marks { IfOk result (λ u. (u.marks
             ≡ record { checkpoint = last_mark u.marks; at = D.call_number u.disk } ∷ [])
             × (u.begun ≡ None) × (u.broken ≡ false)) }

@@ -2,15 +2,16 @@
 ghost use Rattle.std.specs.Prelude.{◌≡◌, ◌↔◌, ◌<◌, ◌≤◌, ℕ, length, Some, None, IfSome, slice_get};
 ghost use Rattle.std.specs.FinMap as map;
 ghost use Rattle.callback_manager.specs.Callbacks.{numbers};
-ghost use Rattle.core_steps.specs.Cores.{IsCore, with_times};
+ghost use Rattle.core_steps.specs.Cores.{IsCore, Outside, with_times};
 ghost use Rattle.core_steps.specs.Held.{tracked_at};
 ghost use Rattle.output_log.specs.Outputs.{sent_count};
+ghost use Rattle.samza_model.specs.Histories.{History};
 ghost use Rattle.samza_model.specs.Marks.{last_mark};
 ghost use Rattle.samza_model.specs.Restored.{id_of};
 ghost use Rattle.task_core.specs.Seen.{lane_state, sent_of};
 ghost use Rattle.task_core.specs.Telling.{status_of};
 ghost use Rattle.unit_logs.specs.Standing.{IsSetUp};
-ghost use Rattle.unit_steps.specs.Units.{Keeps};
+ghost use Rattle.unit_steps.specs.Units.{Keeps, Stands};
 ghost use Rattle.window_timer.specs.Times.{told, marked_due};
 
 use crate::units::TaskUnit;
@@ -40,7 +41,12 @@ impl<'j, J: Job, D: Disk, S: Shelf> TaskUnit<'j, J, D, S> {
 
     /// What it tells of itself. It takes no memory.
     pub fn status(&self) -> Status
-        ensures { result ≡ status_of self.now.core }
+        ensures status { result ≡ status_of self.now.core }
+        // There are events by which it stands.
+        ensures stands { (o : Outside) × (t : History) × Stands J.meaning D.tells D.reads D.call_number
+            D.images D.images_since o self.now t }
+        ensures core { IsCore self.now.core }
+        ensures set_up { IsSetUp self.now.core.setup }
     {
         self.core.status()
     }

@@ -1,7 +1,7 @@
 // What a core is told, and what it tells of itself.
 ghost use Rattle.std.specs.Prelude.{◌≡◌};
 ghost use Rattle.window_timer.specs.Times.{told, marked_due};
-ghost use Rattle.core_steps.specs.Cores.{Keeps, with_times};
+ghost use Rattle.core_steps.specs.Cores.{IsCore, Keeps, with_times};
 ghost use Rattle.core_steps.specs.Times.{is_due};
 ghost use Rattle.task_core.specs.Telling.{status_of};
 
@@ -52,7 +52,8 @@ impl Core {
 
     /// What it tells of itself. It takes no memory, and walks over nothing.
     pub fn status(&self) -> Status
-        ensures { result ≡ status_of self.now }
+        ensures status { result ≡ status_of self.now }
+        ensures core { IsCore self.now }
     {
         Status {
             in_flight: self.callbacks.count(),

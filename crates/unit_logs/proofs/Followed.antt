@@ -1,5 +1,5 @@
 -- What a commit makes of the records of a log, from what it makes of its frames.
-use Rattle.std.proofs.Common.{ℕ, ◌<◌, ◌⊎◌, inl, inr, List, [], ◌∷◌, ◌++◌, length, Option, Some, sym, ◌∙◌, ap}
+use Rattle.std.proofs.Common.{append-nil, ℕ, ◌<◌, ◌⊎◌, inl, inr, List, [], ◌∷◌, ◌++◌, length, Option, Some, sym, ◌∙◌, ap}
 use Rattle.samza_model.specs.declared.messages.Record.{Record}
 use Rattle.samza_model.specs.declared.checkpoints.Checkpoint.{Checkpoint}
 use Rattle.samza_model.specs.declared.setups.Setup.{Setup}
@@ -66,3 +66,26 @@ marked_follows s before after mark next state unlogged made is had log =
         records_are = ap (λ (l : List Record). l ++ m.0 ∷ []) log.records_are ∙ sym (joined-append log.frames ((m.0 ∷ []) ∷ []));
       },
     )
+
+-- without the next checkpoint, the checkpoints' records are those that they were
+pub marked_stays : (s : Setup) (before after : Image) (mark : Option Checkpoint) (contents : List Content) (unlogged unsent : List (List Record))
+    → IsUncommitted s before after mark contents unlogged unsent → (had : List Record) → HasLog (before checkpoint_file) had → HasLog (after checkpoint_file) had
+marked_stays s before after mark contents unlogged unsent is had log = record { frames = log.frames; has = is.marked log.frames log.has; records_are = log.records_are }
+
+-- and each changelog's begin with those that it had
+pub changes_may_follow : (s : Setup) (before after : Image) (mark : Option Checkpoint) (contents : List Content) (unlogged unsent : List (List Record))
+    → IsUncommitted s before after mark contents unlogged unsent → (i : ℕ) (had : List Record) → i < length s.stores → HasLog (before (store_file mark i)) had
+    → (more : List Record) × HasLog (after (store_file mark i)) (had ++ more)
+changes_may_follow s before after mark contents unlogged unsent is i had lt log = elim (is.changes i lt log.frames log.has) [
+  | inl same ↦ ([], record { frames = log.frames; has = same; records_are = append-nil had ∙ log.records_are })
+  | inr more ↦ (
+    unlogged_at unlogged i,
+    record {
+      frames = log.frames ++ more.0;
+      has = more.2;
+      records_are =
+          ap (λ (l : List Record). l ++ unlogged_at unlogged i) log.records_are ∙ ap (λ (l : List Record). joined log.frames ++ l) (sym more.1.whole)
+          ∙ sym (joined-append log.frames more.0);
+    },
+  )
+]

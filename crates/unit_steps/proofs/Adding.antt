@@ -15,7 +15,9 @@ use Rattle.samza_model.specs.declared.marks.KeptMark.{KeptMark}
 use Rattle.samza_model.specs.Histories.{History, all_of, whole, marked, marked_at, with_event}
 use Rattle.samza_model.specs.Requests.{IsPrompt}
 use Rattle.unit_steps.specs.Following.{MayFollow}
-use Rattle.samza_model.specs.Marks.{AreMarks, Files, FromMark, FromBegun, MayBegun, RestoresTo, ImagesStand}
+use Rattle.samza_model.specs.Marks.{AreMarks, Files, FromMark, FromBegun, IsMark, MayBegun, RestoresTo, ImagesStand, last_mark}
+use Rattle.unit_steps.specs.Growing.{HaveGrown}
+use Rattle.unit_steps.specs.Leaving.{HoldAll, IsLeft}
 use Rattle.unit_steps.specs.Units.{UnitValue, Stands, Adds, Keeps, SameGiven}
 
 -- the unit with another core
@@ -41,6 +43,21 @@ begun_more k e t marks (Some b) c within f =
       next = λ p lt. subst (λ (h : List Event). next_at (Some f.made) p ≡ Some (low k.setup (start_at k p) h p)) (sym same) (f.next p lt);
       to = subst (λ (h : List Event). RestoresTo k t.before c (Some f.made) h) (sym same) f.to;
     }
+
+left_more : (k : Given) (e : Event) (t : History) (marks : List KeptMark) (c : Image) (b : ℕ) → b ≤ length t.since → IsLeft k t marks b c → IsLeft k (with_event e t) marks b c
+left_more k e t marks c b within left = elim left [
+  | inl all ↦ inl (record { hold = record { log = all.hold.log; contents = all.hold.contents }; sends = all.sends })
+  | inr more ↦ inr (record {
+    mark = more.mark;
+    is_mark = subst (λ (h : List Event). IsMark k h (last_mark marks) more.mark.checkpoint) (sym (begun_same b e t within)) more.is_mark;
+    hold = subst (λ (l : List Event). HoldAll k (record { before = t.before; since = []; parts = l ∷ t.parts }) (more.mark ∷ marks) c) (sym (older_more b t.since e within)) more.hold;
+  })
+]
+
+lefts_more : (tells : Type 0) (k : Given) (e : Event) (t : History) (marks : List KeptMark) (c : Image) (begun : Option ℕ) → IfSome begun (λ b. b ≤ length t.since)
+    → IfSome begun (λ b. tells → IsLeft k t marks b c) → IfSome begun (λ b. tells → IsLeft k (with_event e t) marks b c)
+lefts_more tells k e t marks c None within left = tt
+lefts_more tells k e t marks c (Some b) within left = λ told. left_more k e t marks c b within (left told)
 
 within_more : (begun : Option ℕ) (n : ℕ) → IfSome begun (λ b. b ≤ n) → IfSome begun (λ b. b ≤ suc n)
 within_more None n le = tt
@@ -73,6 +90,7 @@ module _ {P D S : Type 0} (meaning : P → Meaning) (tells : Type 0) (reads : D 
     same = record { job = refl; shelf = refl; messages = refl; core = a.same };
     times = a.times;
     last = a.last;
+    window = a.window;
     disk = refl;
     marks = (refl, refl, refl);
     history = λ o t s.
@@ -85,9 +103,11 @@ module _ {P D S : Type 0} (meaning : P → Meaning) (tells : Type 0) (reads : D 
           journal = a.journal ∙ ap (λ (l : List Event). e ∷ l) s.journal;
           marks = subst (λ (k : Given). AreMarks k t.parts old.marks) (sym same) s.marks;
           files = λ b told. subst (λ (k : Given). Files k (with_event e t) old.marks (reads old.disk)) (sym same) (files_more (given o old.core) e t old.marks (reads old.disk) (s.files b told));
+          grown = λ b told. subst (λ (k : Given). HaveGrown k t.before t.parts old.marks (reads old.disk)) (sym same) (s.grown b told);
           crash = λ told. subst (λ (k : Given). ImagesStand number images since old.disk k (with_event e t) old.marks old.begun) (sym same) (images_more number images since old.disk (given o old.core) e t old.marks old.begun s.begun (s.crash told));
           begun = within_more old.begun (length t.since) s.begun;
           sound = s.sound;
+          left = subst (λ (k : Given). IfSome old.begun (λ b. tells → IsLeft k (with_event e t) old.marks b (reads old.disk))) (sym same) (lefts_more tells (given o old.core) e t old.marks (reads old.disk) old.begun s.begun s.left);
           prompt = λ sync.
               let before = ap (λ (k : Given). k.setup.async_commit) (sym same) ∙ sync in
               (prompt_more e t.since (subst (λ (l : List Event). MayFollow e l) s.journal (follows before)) (s.prompt before).0, (s.prompt before).1);
@@ -110,9 +130,11 @@ module _ {P D S : Type 0} (meaning : P → Meaning) (tells : Type 0) (reads : D 
           journal = k.journal ∙ s.journal;
           marks = subst (λ (g : Given). AreMarks g t.parts old.marks) (sym same) s.marks;
           files = λ b told. subst (λ (g : Given). Files g t old.marks (reads old.disk)) (sym same) (s.files b told);
+          grown = λ b told. subst (λ (g : Given). HaveGrown g t.before t.parts old.marks (reads old.disk)) (sym same) (s.grown b told);
           crash = λ told. subst (λ (g : Given). ImagesStand number images since old.disk g t old.marks old.begun) (sym same) (s.crash told);
           begun = s.begun;
           sound = s.sound;
+          left = subst (λ (g : Given). IfSome old.begun (λ b. tells → IsLeft g t old.marks b (reads old.disk))) (sym same) s.left;
           prompt = λ sync. s.prompt (ap (λ (g : Given). g.setup.async_commit) (sym same) ∙ sync);
         };
   }

@@ -28,8 +28,11 @@ use Rattle.samza_model.specs.declared.marks.KeptMark.{KeptMark}
 use Rattle.samza_model.specs.Histories.{History, all_of, whole, marked, with_mark, ArePrompt}
 use Rattle.samza_model.specs.Requests.{IsPrompt}
 use Rattle.samza_model.specs.Marks.{AreMarks, IsMark, Files, ImagesStand, last_mark}
+use Rattle.unit_steps.specs.Growing.{GrownBy, HaveGrown}
+use Rattle.unit_steps.specs.Leaving.{IsLeft}
 use Rattle.unit_steps.specs.Units.{UnitValue, Stands, Marks, Begins, SameGiven, OpenOnDisk}
-use Rattle.unit_steps.proofs.Marking.{files_made, images_made, images_begun, older_marked, restored}
+use Rattle.unit_steps.proofs.Leaving.{left_is}
+use Rattle.unit_steps.proofs.Marking.{files_made, images_made, images_begun, left_begun, older_marked, restored}
 
 -- the unit behind a commit
 abbrev pub with_commit : {P D S : Type 0} → UnitValue P D S → D → CoreValue → KeptMark → UnitValue P D S
@@ -78,8 +81,10 @@ module _ {P D S : Type 0} (meaning : P → Meaning) (tells : Type 0) (reads : D 
     leaves told = run told (state_after o.state (marked t)).stores
         (restored number images since old.disk disk (given o old.core) t old.core.held s.core.held old.marks (reads old.disk) (s.files sound told) (here told) (crash_none told) (lane_at old.core.lanes 0).low made one (low_here o old.core (whole t) (length (marked t)) s.core one))
 
-    pub begins_stand : (tells → (c : Image) → images disk c → since disk (number old.disk) c) → Stands meaning tells reads number images since o (with_begun old disk (length old.core.since)) t
-    begins_stand counts = record {
+    pub begins_stand : (tells → (c : Image) → images disk c → since disk (number old.disk) c) → (tells → images disk (reads disk)) → AtRest old.core → IsNamed old.core.setup made
+        → made.id ≡ id_of (last_mark old.marks) + 1 → next_at (Some made) 0 ≡ Some (lane_at old.core.lanes 0).low
+        → Stands meaning tells reads number images since o (with_begun old disk (length old.core.since)) t
+    begins_stand counts now rest named id next = record {
       job = s.job;
       parts = s.parts;
       opened = s.opened;
@@ -87,23 +92,37 @@ module _ {P D S : Type 0} (meaning : P → Meaning) (tells : Type 0) (reads : D 
       journal = s.journal;
       marks = s.marks;
       files = λ b. absurd (broken_now b);
+      grown = λ b. absurd (broken_now b);
       crash = λ told. subst (λ (n : ℕ). ImagesStand number images since disk (given o old.core) t old.marks (Some n)) (ap length (sym s.journal))
           (images_begun number images since old.disk disk (given o old.core) t old.core.held s.core.held old.marks (reads old.disk) (s.files sound told) (here told) (crash_none told) (lane_at old.core.lanes 0).low made one (low_here o old.core (whole t) (length (marked t)) s.core one)
           (counts told) (leaves told));
       begun = omega (arith, ap length s.journal);
       sound = λ b. absurd (broken_now b);
+      left = λ told. subst (λ (n : ℕ). IsLeft (given o old.core) t old.marks n (reads disk)) (ap length (sym s.journal))
+          (left_begun number images since old.disk disk (given o old.core) t old.core.held s.core.held old.marks (reads old.disk) (s.files sound told) (here told) (crash_none told) (lane_at old.core.lanes 0).low made one (low_here o old.core (whole t) (length (marked t)) s.core one)
+          (counts told) (leaves told) (is_mark o old.core (whole t) (length (marked t)) s.core one (last_mark old.marks) made rest named id next) (reads disk) (now told));
       prompt = s.prompt;
     }
       where
         broken_now : true ≡ false → ⊥
         broken_now e = cc
 
-    pub marks_stand : (core : CoreValue) → Commits old.core core → AtRest old.core → IsNamed old.core.setup made → made.id ≡ id_of (last_mark old.marks) + 1 → next_at (Some made) 0 ≡ Some (lane_at old.core.lanes 0).low
+    -- the files grew by the commit
+    grows : (c : Image) → length old.core.held.stores ≡ length old.core.setup.stores → IsCommitted old.core.setup (reads old.disk) c (last_mark old.marks) (lane_at old.core.lanes 0).low (state_of old.core.held) (unlogged_of old.core.held.stores) made
+        → GrownBy (given o old.core) t.since (all_of t.parts) (last_mark old.marks) made (reads old.disk) c
+    grows c as_many done = record {
+      state = state_of old.core.held;
+      unlogged = unlogged_of old.core.held.stores;
+      left = left_is (given o old.core) t old.core.held s.core.held as_many;
+      committed = subst (λ (n : ℕ). IsCommitted old.core.setup (reads old.disk) c (last_mark old.marks) n (state_of old.core.held) (unlogged_of old.core.held.stores) made) (sym (low_here o old.core (whole t) (length (marked t)) s.core one)) done;
+    }
+
+    pub marks_stand : (core : CoreValue) → length old.core.held.stores ≡ length old.core.setup.stores → Commits old.core core → AtRest old.core → IsNamed old.core.setup made → made.id ≡ id_of (last_mark old.marks) + 1 → next_at (Some made) 0 ≡ Some (lane_at old.core.lanes 0).low
         → (tells → (c : Image) → since disk (number disk) c → images disk c)
         → (tells → images disk (reads disk))
         → (tells → (c : Image) → images disk c → IsCommitted old.core.setup (reads old.disk) c (last_mark old.marks) (lane_at old.core.lanes 0).low (state_of old.core.held) (unlogged_of old.core.held.stores) made)
         → Stands meaning tells reads number images since o (with_commit old disk core (record { checkpoint = Some made; at = number disk })) (with_mark t)
-    marks_stand core commits rest named id next only now done =
+    marks_stand core as_many commits rest named id next only now done =
         let m : KeptMark = record { checkpoint = Some made; at = number disk } in
         let same = commits.same o in
         record {
@@ -116,11 +135,14 @@ module _ {P D S : Type 0} (meaning : P → Meaning) (tells : Type 0) (reads : D 
               (is_mark o old.core (whole t) (length (marked t)) s.core one (last_mark old.marks) made rest named id next, s.marks);
           files = λ _ told. subst (λ (k : Given). Files k (with_mark t) (m ∷ old.marks) (reads disk)) (sym same)
               (files_made (given o old.core) t old.core.held old.marks (reads old.disk) (reads disk) (last_mark old.marks) (lane_at old.core.lanes 0).low (number disk) made s.core.held (s.files sound told) (done told (reads disk) (now told)));
+          grown = λ _ told. subst (λ (k : Given). HaveGrown k t.before (t.since ∷ t.parts) (m ∷ old.marks) (reads disk)) (sym same)
+              (made, refl, reads old.disk, s.grown sound told, grows (reads disk) as_many (done told (reads disk) (now told)));
           crash = λ told. subst (λ (k : Given). ImagesStand number images since disk k (with_mark t) (m ∷ old.marks) None) (sym same)
               (images_made number images since old.disk disk (given o old.core) t old.core.held s.core.held old.marks (reads old.disk) (s.files sound told) (here told) (crash_none told) (lane_at old.core.lanes 0).low made one (low_here o old.core (whole t) (length (marked t)) s.core one)
               (only told) (leaves told) (done told));
           begun = tt;
           sound = λ _. refl;
+          left = tt;
           prompt = λ sync.
               let p = s.prompt (ap (λ (k : Given). k.setup.async_commit) (sym same) ∙ sync) in
               (tt, p);

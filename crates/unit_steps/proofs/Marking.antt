@@ -21,12 +21,13 @@ use Rattle.core_steps.specs.Lanes.{lane_at}
 use Rattle.core_steps.specs.Cores.{CoreValue, Outside, given, IsCore, IsHeld, IsWindow, Commits, Stands as CoreStands}
 use Rattle.core_steps.proofs.Laws.{low_is}
 use Rattle.unit_logs.specs.Unlogged.{unlogged_of}
-use Rattle.unit_logs.proofs.Laws.{marked_follows, changes_follow, sends_follow, sends_may_follow}
+use Rattle.unit_logs.proofs.Laws.{changes_follow, changes_may_follow, marked_follows, marked_stays, sends_follow, sends_may_follow}
 use Rattle.unit_logs.specs.Commits.{IsCommitted, IsUncommitted, LeavesMade}
 use Rattle.samza_model.specs.declared.marks.KeptMark.{KeptMark}
 use Rattle.samza_model.specs.Histories.{History, all_of, whole, marked, marked_at, with_mark, ArePrompt}
 use Rattle.samza_model.specs.Requests.{IsPrompt}
 use Rattle.samza_model.specs.Marks.{AreMarks, IsMark, AreSpelled, SpellsLast, BeginsWith, Files, FromMark, FromBegun, MayBegun, RestoresTo, ImagesStand, last_mark}
+use Rattle.unit_steps.specs.Leaving.{HoldAll, HoldOneMore, IsLeft}
 use Rattle.unit_steps.specs.Units.{UnitValue, Stands, Marks, Begins, SameGiven}
 
 dropped : {X : Type 0} (xs ys : List X) → drop (length xs) (xs ++ ys) ≡ ys
@@ -133,6 +134,38 @@ files_made k t held marks reads reads' mark next at made is files c = record {
     contents (suc n) i m e lt = grown_content (reads (changelog_file i)) (reads' (store_file m.checkpoint i)) (count_at m.checkpoint i) (store_at (state_after k.state (all_of (drop n t.parts))).stores i)
         (λ had log. changes_follow k.setup reads reads' mark next (state_of held) (unlogged_of held.stores) made c i had lt log) (files.hold.contents n i m e lt)
 
+-- what stands in them without it
+pub held_before : (k : Given) (t : History) (held : Held) (marks : List KeptMark) (reads reads' : Image) (mark : Option Checkpoint) (next : ℕ)
+    → IsHeld k.state (whole t) (length (marked t)) held → Files k t marks reads → IsUncommitted k.setup reads reads' mark (state_after k.state (marked t)).stores (unlogged_of held.stores) held.unsent
+    → HoldAll k t marks reads'
+held_before k t held marks reads reads' mark next is files un = record {
+  hold = record {
+    log = λ had log.
+        let old = files.hold.log had log in
+        (old.0, old.1, marked_stays k.setup reads reads' mark (state_after k.state (marked t)).stores (unlogged_of held.stores) held.unsent un (had ++ old.0) old.2);
+    contents = λ n i m at lt. grown_content (reads (changelog_file i)) (reads' (store_file m.checkpoint i)) (count_at m.checkpoint i) (store_at (state_after k.state (all_of (drop n t.parts))).stores i)
+        (λ had log. changes_may_follow k.setup reads reads' mark (state_after k.state (marked t)).stores (unlogged_of held.stores) held.unsent un i had lt log) (files.hold.contents n i m at lt);
+  };
+  sends = (old_restores k t held is marks reads files mark next reads' un).sends;
+}
+
+-- and with it, of a commit that wasn't finished
+pub held_behind : (k : Given) (t : History) (held : Held) (marks : List KeptMark) (reads reads' : Image) (mark : Option Checkpoint) (next : ℕ) (made : Checkpoint)
+    → IsHeld k.state (whole t) (length (marked t)) held → Files k t marks reads → IsCommitted k.setup reads reads' mark next (state_of held) (unlogged_of held.stores) made
+    → IsMark k (whole t) (last_mark marks) (Some made) → HoldOneMore k t marks (length t.since) reads'
+held_behind k t held marks reads reads' mark next made is files c is_mark =
+    let m : KeptMark = record { checkpoint = Some made; at = 0 } in
+    let none : 0 ≡ length t.since - length t.since = omega arith in
+    let now : t.since ≡ older (length t.since) t.since = ap (λ n. drop n t.since) none in
+    record {
+      mark = m;
+      is_mark = subst (λ (h : List Event). IsMark k h (last_mark marks) (Some made)) (sym (begun_now t)) is_mark;
+      hold = subst (λ (l : List Event). HoldAll k (record { before = t.before; since = []; parts = l ∷ t.parts }) (m ∷ marks) reads') now (record {
+        hold = (files_made k t held marks reads reads' mark next 0 made is files c).hold;
+        sends = (made_restores k t held is marks reads files mark next reads' made c).sends;
+      });
+    }
+
 last_is : (marks : List KeptMark) (m : KeptMark) → slice_get marks 0 ≡ Some m → last_mark marks ≡ m.checkpoint
 last_is [] m e = absurd (none e)
   where
@@ -202,6 +235,14 @@ module _ {D : Type 0} (number : D → ℕ) (images : D → Image → Type 0) (si
         );
     here = λ c now. elim (run.each c (counts c now)).2.1 [ inl un ↦ inl (uncommitted 0 c un) | inr is_made ↦ inr (begun_at c is_made) ];
   }
+
+  -- what it leaves in the files
+  pub left_begun : ((c : Image) → images new c → since new (number old) c) → LeavesOnly number images since old new Leaves → IsMark k (whole t) (last_mark marks) (Some made)
+      → (c : Image) → images new c → IsLeft k t marks (length t.since) c
+  left_begun counts run is_mark c now = elim (run.each c (counts c now)).2.1 [
+    | inl un ↦ inl (held_before k t held marks reads c (last_mark marks) next is files un)
+    | inr is_made ↦ inr (held_behind k t held marks reads c (last_mark marks) next made is files is_made is_mark)
+  ]
 
   abbrev Made : KeptMark
   Made = record { checkpoint = Some made; at = number new }

@@ -15,6 +15,7 @@ use Rattle.core_steps.specs.Cores.{CoreValue, Outside, given, Stands as CoreStan
 use Rattle.samza_model.specs.declared.marks.KeptMark.{KeptMark}
 use Rattle.samza_model.specs.Histories.{History, all_of}
 use Rattle.samza_model.specs.Marks.{Files, FromMark, RestoresTo, BeginsWith, ImagesStand}
+use Rattle.unit_opening.specs.Opened.{LogsStay}
 use Rattle.unit_steps.specs.Units.{UnitValue, Stands}
 
 -- what an opening must say of the disk: each image restores to what was restored before it, and its outputs' logs have what they had
@@ -25,6 +26,7 @@ pub record OpensAt {D : Type 0} (reads : D → Image) (images : D → Image → 
   pub marks : (had : List Record) → HasLog (before checkpoint_file) had → HasLog (reads disk checkpoint_file) had
   pub all : (i : ℕ) (records : List Record) → i < length k.setup.stores → HasLog (reads disk (changelog_file i)) records → foldrec records ≡ store_at k.state.stores i
   pub none : (j : ℕ) → sent_at k.state.sent j ≡ []
+  pub stay : LogsStay k.setup mark before (reads disk)
 
 module _ {D : Type 0} (reads : D → Image) (number : D → ℕ) (images : D → Image → Type 0) (since : D → ℕ → Image → Type 0) (k : Given) (before : Image) (disk : D) (m : KeptMark) (at : OpensAt reads images k before disk m.checkpoint) (here : images disk (reads disk)) where
   abbrev First : History
@@ -86,8 +88,10 @@ opened_stands meaning tells reads number images since o job shelf messages core 
   journal = journal;
   marks = refl;
   files = λ _ told. opened_files reads number images since (given o core) before disk m (at told) (here told);
+  grown = λ _ told. (at told).stay;
   crash = λ told. opened_images reads number images since (given o core) before disk m (at told) (here told) now (only told);
   begun = tt;
   sound = λ _. refl;
+  left = tt;
   prompt = λ _. (tt, tt);
 }

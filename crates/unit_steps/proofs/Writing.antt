@@ -65,14 +65,14 @@ module _ {P D S : Type 0} (meaning : P → Meaning) (tells : Type 0) (reads : D 
 
     module _ (logs' : Logs) (changelogs_are : length logs'.changelogs.items ≡ length logs.changelogs.items) (outputs_are : length logs'.outputs.items ≡ length logs.outputs.items) where
       -- a write that failed
-      module _ (counts : tells → number old.disk ≤ number disk → (c : Image) → images disk c → since disk (number old.disk) c) where
+      module _ (counts : tells → number old.disk ≤ number disk → (c : Image) → images disk c → since disk (number old.disk) c) (now : tells → images disk (reads disk)) (rest : AtRest old.core) where
         pub unfinished : Begins meaning tells reads number images since old (with_begun old disk (length old.core.since))
         unfinished = record {
           same = record { job = refl; shelf = refl; messages = refl; core = λ o. refl };
           core = refl;
           marks = refl;
           begun = (refl, sound, refl);
-          history = λ o t s. begins_stand meaning tells reads number images since old disk made one sound here run o t s (λ told. counts told (later told));
+          history = λ o t s. begins_stand meaning tells reads number images since old disk made one sound here run o t s (λ told. counts told (later told)) now rest p.named id_is p.next_is;
         }
 
         pub unfinished_unit : IsUnit meaning tells reads number images since logs' (with_begun old disk (length old.core.since))
@@ -102,10 +102,12 @@ module _ {P D S : Type 0} (meaning : P → Meaning) (tells : Type 0) (reads : D 
         finished = record {
           same = record { job = refl; shelf = refl; messages = refl; core = commits_core.same };
           times = commits_core.times;
+          window = commits_core.window;
+          journal = commits_core.journal;
           id = id_is;
           marks = refl;
           sound = (sound, refl, refl);
-          history = λ o t s. marks_stand meaning tells reads number images since old disk made one sound here run o t s after commits_core rest p.named id_is p.next_is only now done;
+          history = λ o t s. marks_stand meaning tells reads number images since old disk made one sound here run o t s after core.sized.stores commits_core rest p.named id_is p.next_is only now done;
         }
 
         pub finished_unit : IsUnit meaning tells reads number images since logs' (with_commit old disk after (record { checkpoint = Some made; at = number disk }))

@@ -1,2 +1,4 @@
 pub mod Following
+pub mod Growing
+pub mod Leaving
 pub mod Units

@@ -18,6 +18,9 @@ use Rattle.topic_log.specs.declared.logs.Log.{Log}
 use Rattle.topic_log.specs.Opened.{count_of}
 use Rattle.restore_trim.specs.Standing.{IsOpenAt}
 use Rattle.core_steps.specs.Cores.{CoreValue, Outside, given, Stands as CoreStands}
+use Rattle.unit_steps.specs.Growing.{HaveGrown}
+use Rattle.unit_steps.specs.Leaving.{IsLeft}
+use Rattle.samza_model.specs.Ran.{is_of_window}
 use Rattle.unit_logs.specs.declared.writing.Logs.{Logs}
 use Rattle.unit_logs.specs.Appending.{AreOpen}
 use Rattle.unit_logs.specs.Standing.{IsSetUp, MarkStands}
@@ -38,7 +41,8 @@ pub record UnitValue (P D S : Type 0) : Type 0 where
 
 -- The unit stands by these events: the job's, on the messages of its input. Where the disk tells its bytes, its files at the opening
 -- restored to the first mark and the content that it began with, its files hold the marks since and what was sent, and every image
--- since a mark restores to that mark or a later one.
+-- since a mark restores to that mark or a later one. Behind a commit that answered Device its files hold the marks, or the begun one
+-- more.
 pub record Stands {P D S : Type 0} (meaning : P → Meaning) (tells : Type 0) (reads : D → Image) (number : D → ℕ) (images : D → Image → Type 0) (since : D → ℕ → Image → Type 0) (o : Outside) (u : UnitValue P D S) (t : History) : Type 0 where
   pub job : o.job ≡ Some (meaning u.job)
   pub parts : o.parts ≡ Some (partition_of u.messages) ∷ []
@@ -48,9 +52,11 @@ pub record Stands {P D S : Type 0} (meaning : P → Meaning) (tells : Type 0) (r
   pub journal : u.core.since ≡ t.since
   pub marks : AreMarks (given o u.core) t.parts u.marks
   pub files : u.broken ≡ false → tells → Files (given o u.core) t u.marks (reads u.disk)
+  pub grown : u.broken ≡ false → tells → HaveGrown (given o u.core) t.before t.parts u.marks (reads u.disk)
   pub crash : tells → ImagesStand number images since u.disk (given o u.core) t u.marks u.begun
   pub begun : IfSome u.begun (λ b. b ≤ length t.since)
   pub sound : u.broken ≡ false → u.begun ≡ None
+  pub left : IfSome u.begun (λ b. tells → IsLeft (given o u.core) t u.marks b (reads u.disk))
   pub prompt : u.core.setup.async_commit ≡ false → IsPrompt t.since × ArePrompt t.parts
 
 -- of a unit that was just opened: the files at the opening, and no events
@@ -69,6 +75,7 @@ pub record Adds {P D S : Type 0} (meaning : P → Meaning) (tells : Type 0) (rea
   pub same : SameGiven old new
   pub times : new.core.times ≡ old.core.times
   pub last : new.core.last ≡ old.core.last
+  pub window : is_of_window e ≡ false → new.core.window ≡ old.core.window
   pub disk : new.disk ≡ old.disk
   pub marks : (new.marks ≡ old.marks) × (new.begun ≡ old.begun) × (new.broken ≡ old.broken)
   pub history : (o : Outside) (t : History) → Stands meaning tells reads number images since o old t
@@ -87,6 +94,8 @@ pub record Keeps {P D S : Type 0} (meaning : P → Meaning) (tells : Type 0) (re
 pub record Marks {P D S : Type 0} (meaning : P → Meaning) (tells : Type 0) (reads : D → Image) (number : D → ℕ) (images : D → Image → Type 0) (since : D → ℕ → Image → Type 0) (old new : UnitValue P D S) (made : Checkpoint) : Type 0 where
   pub same : SameGiven old new
   pub times : new.core.times ≡ commit_made old.core.times
+  pub window : new.core.window ≡ old.core.window
+  pub journal : new.core.since ≡ []
   pub id : made.id ≡ id_of (last_mark old.marks) + 1
   pub marks : new.marks ≡ record { checkpoint = Some made; at = number new.disk } ∷ old.marks
   pub sound : (old.broken ≡ false) × (new.broken ≡ false) × (new.begun ≡ None)

@@ -9,4 +9,4 @@ pub returns : goal.returns
 returns c =
     let new : Held = record { stores = c.flush_all.new.stores.items; unsent = c.clear.new.self.unsent; cleared = c.clear.new.self.cleared } in
     subst (λ (h : Held). IsCleared h new) c.self.view_is
-    (cleared_is (the_view c.self.inside) c.flush_all.new.stores.items c.self.inside.outputs c.clear.new.self c.flush_all.ensures refl c.clear.ensures.cleared)
+    (cleared_is (the_view c.self.inside) c.flush_all.new.stores.items c.self.inside.outputs c.clear.new.self c.flush_all.ensures.contents c.flush_all.ensures.clean refl c.clear.ensures.cleared)

@@ -28,4 +28,4 @@ returns-clause-stands c =
       kept = ap (λ (t : Trimmed). t.kept) c.new.ensures;
       unasked = refl;
     })
-    (b.lanes ∙ ap (map (begun_lane c.args.setup.span)) c.as_slice.ensures.value) b.contents b.unsent state
+    (b.lanes ∙ ap (map (begun_lane c.args.setup.span)) c.as_slice.ensures.value) b.contents b.clean b.unsent state
