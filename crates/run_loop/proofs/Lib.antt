@@ -1,0 +1,5 @@
+mod Counting
+mod Ending
+mod Running
+mod Standing
+mod Turning

@@ -1,0 +1,4 @@
+pub mod Measures
+pub mod Messages
+pub mod Runs
+pub mod Stops
