@@ -1,16 +1,18 @@
 // What a unit is told, and what it tells of itself.
-ghost use Rattle.std.specs.Prelude.{◌≡◌, ◌↔◌, ◌<◌, ◌≤◌, ℕ, length, Some, None, IfSome, slice_get};
+ghost use Rattle.std.specs.Prelude.{◌≡◌, ◌↔◌, ◌<◌, ◌≤◌, ℕ, length, Some, None, IfSome, false, slice_get};
 ghost use Rattle.std.specs.FinMap as map;
 ghost use Rattle.callback_manager.specs.Callbacks.{numbers};
 ghost use Rattle.core_steps.specs.Cores.{IsCore, Outside, with_times};
 ghost use Rattle.core_steps.specs.Held.{tracked_at};
 ghost use Rattle.output_log.specs.Outputs.{sent_count};
+ghost use Rattle.samza_model.specs.Files.{Image};
 ghost use Rattle.samza_model.specs.Histories.{History};
 ghost use Rattle.samza_model.specs.Marks.{last_mark};
 ghost use Rattle.samza_model.specs.Restored.{id_of};
 ghost use Rattle.task_core.specs.Seen.{lane_state, sent_of};
 ghost use Rattle.task_core.specs.Telling.{status_of};
 ghost use Rattle.unit_logs.specs.Standing.{IsSetUp};
+ghost use Rattle.unit_steps.specs.Moments.{SameOfTask};
 ghost use Rattle.unit_steps.specs.Units.{Keeps, Stands};
 ghost use Rattle.window_timer.specs.Times.{told, marked_due};
 
@@ -123,10 +125,14 @@ impl<'j, J: Job, D: Disk, S: Shelf> TaskUnit<'j, J, D, S> {
         self.shelf.faults()
     }
 
-    /// The disk and the shelf, given back.
+    /// The disk and the shelf, given back. While no commit answered `Device`, a crash leaves the task's files as they read.
     pub fn close(self) -> (D, S)
         ensures disk { result.0 ≡ self.entry.disk }
         ensures shelf { result.1 ≡ self.entry.shelf }
+        ensures durable { self.entry.broken ≡ false → D.tells → (image : Image)
+            → D.images self.entry.disk image
+            → SameOfTask (length self.entry.core.setup.stores)
+            (length self.entry.core.setup.outputs) (D.reads self.entry.disk) image }
     {
         (self.disk, self.shelf)
     }

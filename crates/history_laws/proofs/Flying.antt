@@ -12,7 +12,7 @@ use Rattle.samza_model.specs.declared.events.Event.TheVariants.{Deliver, Did, Co
 use Rattle.samza_model.specs.Events.{answered, begun, deliveries_of, flight_of, flights, is_at, with_answer, without, without_turn}
 use Rattle.samza_model.specs.Lawful.{Given, IsLawful, start_at}
 
-all_answered : (P : Flight → Type 0) → ((a : Answer) (f : Flight) → P f → P (with_answer a f)) → (n : ℕ) (a : Answer) (fs : List Flight) → AllByRecursion P fs → AllByRecursion P (answered n a fs)
+pub all_answered : (P : Flight → Type 0) → ((a : Answer) (f : Flight) → P f → P (with_answer a f)) → (n : ℕ) (a : Answer) (fs : List Flight) → AllByRecursion P fs → AllByRecursion P (answered n a fs)
 all_answered P keeps n a [] all = tt
 all_answered P keeps n a (f ∷ fs) all = elim (f.number == n) as (λ b. AllByRecursion P (if b then with_answer a f ∷ fs else f ∷ answered n a fs)) [
   | true ↦ (keeps a f all.0, all.1)

@@ -5,5 +5,6 @@ mod Expiring
 mod Failing
 mod Flying
 mod Folding
+mod Placing
 pub mod Shared
 mod Turning

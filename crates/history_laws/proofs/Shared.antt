@@ -5,3 +5,4 @@ pub use Rattle.history_laws.proofs.Delivering.{delivered_before_end, delivered_i
 pub use Rattle.history_laws.proofs.Expiring.{at_course, never_expires}
 pub use Rattle.history_laws.proofs.Failing.{failure_or_end, never_fails, one_failure}
 pub use Rattle.history_laws.proofs.Folding.{failure_is_the_folds, folded}
+pub use Rattle.history_laws.proofs.Placing.{failure_placed}

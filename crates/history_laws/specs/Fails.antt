@@ -1,5 +1,5 @@
 -- What is said of how a task fails.
-use Rattle.std.specs.Prelude.{ℕ, ◌-◌, ◌≡◌, ◌<◌, List, [], ◌∷◌, ◌++◌, length, Some, None}
+use Rattle.std.specs.Prelude.{ℕ, ◌-◌, ◌≡◌, ◌<◌, List, [], ◌∷◌, ◌++◌, length, Some, None, false}
 use Rattle.samza_model.specs.declared.messages.Envelope.{Envelope}
 use Rattle.samza_model.specs.declared.turns.Failure.{Failure}
 use Rattle.samza_model.specs.declared.turns.Why.{Why}
@@ -9,7 +9,7 @@ use Rattle.samza_model.specs.Content.{State}
 use Rattle.samza_model.specs.Events.{deliveries_of, first_failure, flights, ssp_at, state_after}
 use Rattle.samza_model.specs.Lawful.{Given, IsLawful, end_at_input, part_at, start_at}
 use Rattle.samza_model.specs.Meaning.{Meaning}
-use Rattle.samza_model.specs.Ran.{HasNoWindows}
+use Rattle.samza_model.specs.Ran.{HasNoWindows, is_window}
 use Rattle.samza_model.specs.Partition.{Partition}
 use Rattle.samza_model.specs.Runs.{folds, runs}
 use Rattle.history_laws.specs.Deliveries.{first_messages}
@@ -26,6 +26,11 @@ IsNotExpired (Expired delivered now) = ⊥
 abbrev pub NeverExpires : Type 0
 NeverExpires = (k : Given) (h : List Event) (f : Failure) → k.setup.timeout_ms ≡ None
     → IsLawful k h → first_failure h ≡ Some f → IsNotExpired f.why
+
+-- where there is one input, a callback fails at one of its offsets
+abbrev pub HavePlaces : Type 0
+HavePlaces = (k : Given) (h : List Event) (f : Failure) → length k.starts ≡ 1 → IsLawful k h → first_failure h ≡ Some f
+    → is_window f.turn ≡ false → (offset : ℕ) × (f.place ≡ Some (0, offset))
 
 -- The failure is the job's own, of the last message that was delivered: it did those before, and failed this one from what they left.
 pub record IsOfLast (job : Meaning) (k : Given) (h : List Event) (f : Failure) : Type 0 where

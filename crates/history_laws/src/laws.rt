@@ -1,7 +1,7 @@
 // What holds of each lawful list of events.
 ghost use Rattle.history_laws.specs.Answers.{HaveFewAnswers};
 ghost use Rattle.history_laws.specs.Deliveries.{AreInOrder, AreOfOneInput};
-ghost use Rattle.history_laws.specs.Fails.{FailsOnce, FailsOrEnds, IsTheFolds};
+ghost use Rattle.history_laws.specs.Fails.{FailsOnce, FailsOrEnds, HavePlaces, IsTheFolds};
 ghost use Rattle.history_laws.specs.Fails.{NeverExpires, NeverFails};
 ghost use Rattle.history_laws.specs.Lows.{IsLeast, IsUnique, IsEndWhereIdle};
 ghost use Rattle.history_laws.specs.Folds.{IsFolded};
@@ -28,6 +28,11 @@ pub fn few_answers()
 /// Where the setup has no time limit, the first failure isn't that a callback's time ran out.
 pub fn untimed_never_expires()
     ensures { NeverExpires }
+{}
+
+/// Where there is one input, a callback fails at one of its offsets.
+pub fn failures_have_places()
+    ensures { HavePlaces }
 {}
 
 /// At concurrency one, without windows, a failure that isn't of a time that ran out is the job's

@@ -4,6 +4,6 @@
 mod laws;
 
 pub use laws::{
-    content_is_the_fold, delivered_in_order, fails_once, failure_is_the_folds, few_answers,
-    folded_never_fails, lows_are_least, untimed_never_expires,
+    content_is_the_fold, delivered_in_order, fails_once, failure_is_the_folds,
+    failures_have_places, few_answers, folded_never_fails, lows_are_least, untimed_never_expires,
 };

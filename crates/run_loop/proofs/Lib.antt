@@ -1,5 +1,6 @@
 mod Counting
 mod Ending
+pub mod Laws
 mod Running
 mod Standing
 mod Turning

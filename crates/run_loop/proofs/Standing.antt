@@ -2,6 +2,7 @@
 use Rattle.std.proofs.Common.{zero, suc, ℕ, ◌+◌, ◌-◌, ◌*◌, ◌≡◌, ◌<◌, ◌≤◌, false, List, [], ◌∷◌, length, get_or, is_some, Option, Some, None, refl, sym, ◌∙◌, ap, arith, true≢false}
 use Rattle.std.proofs.lemmas.Bool.{lt-leb}
 use Rattle.samza_model.specs.declared.checkpoints.Checkpoint.{Checkpoint}
+use Rattle.samza_model.specs.declared.marks.KeptMark.{KeptMark}
 use Rattle.samza_model.specs.declared.setups.Setup.{Setup}
 use Rattle.samza_model.specs.declared.events.Event.{Event}
 use Rattle.samza_model.specs.declared.flights.Flight.{Flight}
@@ -9,6 +10,7 @@ use Rattle.samza_model.specs.Events.{deliveries_of, flights}
 use Rattle.samza_model.specs.Files.{Image}
 use Rattle.samza_model.specs.Histories.{whole}
 use Rattle.samza_model.specs.Lawful.{Given}
+use Rattle.samza_model.specs.Marks.{AreMarks}
 use Rattle.samza_model.specs.Meaning.{Meaning}
 use Rattle.window_timer.specs.Times.{commit_made}
 use Rattle.window_timer.specs.Intervals.{passed_since}
@@ -61,6 +63,13 @@ rested s t is some = ap (λ (i : Option ℕ). passed_since i t.moment t.moment) 
     never (Some zero) nay = absurd (nay refl)
     never (Some (suc every)) nay = lt-leb (suc every) (t.moment - t.moment) (omega arith)
 
+-- a unit has the opening's mark
+some_mark : (k : Given) (parts : List (List Event)) (marks : List KeptMark) → AreMarks k parts marks → 0 < length marks
+some_mark k [] [] are = absurd are
+some_mark k (p ∷ ps) [] are = absurd are
+some_mark k [] (m ∷ ms) are = omega arith
+some_mark k (p ∷ ps) (m ∷ ms) are = omega arith
+
 module _ {P D S : Type 0} (meaning : P → Meaning) (tells : Type 0) (reads : D → Image) (number : D → ℕ) (images : D → Image → Type 0) (since : D → ℕ → Image → Type 0) (old new : UnitValue P D S)
     (st : IsStanding meaning tells reads number images since old) where
   -- what a mark leaves as it was
@@ -78,6 +87,7 @@ module _ {P D S : Type 0} (meaning : P → Meaning) (tells : Type 0) (reads : D 
           closed = m.window ∙ going.closed;
         };
         since = m.journal;
+        more = omega (arith, ap length m.marks, some_mark (given o old.core) t.parts old.marks st.stands.marks);
         due = ap (λ (l : List Event). is_due l new.core.times) m.journal ∙ ap (λ (x : Times). is_due [] x) m.times ∙ rested old.core.setup.commit_ms old.core.times st.core.timed.commit st.core.runnable.commits;
         flies = flies_as o old.core new.core same (whole t) (whole t) _ _ before after ∙ sym before.flies;
         next =
@@ -104,7 +114,7 @@ none_asked (Some x) is = absurd (true≢false is)
 pub ended : {P D S : Type 0} (old new : UnitValue P D S) → SameGiven old new → IsMarked old new → old.core.callbacks.flights ≡ [] → is_some old.core.asked ≡ false → next_at old.core 0 ≡ get_or old.core.ends 0 0
     → IsSettled new × (next_at new.core 0 ≡ get_or new.core.ends 0 0) × (new.core.asked ≡ None)
 ended old new same m idle nobody_asked at_end =
-    (record { going = m.going; idle = m.flies ∙ idle; marked = m.since }, m.next ∙ at_end ∙ sym (same_end old new same), m.asked ∙ none_asked old.core.asked nobody_asked)
+    (record { going = m.going; idle = m.flies ∙ idle; marked = m.since; committed = m.more }, m.next ∙ at_end ∙ sym (same_end old new same), m.asked ∙ none_asked old.core.asked nobody_asked)
 
 -- why a run ended that began behind another
 pub why_from : {P D S : Type 0} (tells : Type 0) (reads : D → Image) (faults : D → ℕ) (old mid new : UnitValue P D S) → faults old.disk ≤ faults mid.disk

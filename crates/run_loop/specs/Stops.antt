@@ -1,5 +1,5 @@
 -- Why a run ended, by what it left of its unit.
-use Rattle.std.specs.Prelude.{ℕ, ◌≡◌, [], length, Some, None, true, false, is_some, slice_index_or}
+use Rattle.std.specs.Prelude.{ℕ, ◌≡◌, ◌<◌, [], length, Some, None, true, false, is_some, slice_index_or}
 use Rattle.samza_model.specs.declared.turns.Failure.{Failure}
 use Rattle.samza_model.specs.Counters.{Rose}
 use Rattle.samza_model.specs.Files.{Image}
@@ -10,11 +10,12 @@ use Rattle.run_loop.specs.Runs.{IsGoing}
 use Rattle.run_loop.specs.declared.stops.Stop.{Stop}
 use Rattle.run_loop.specs.declared.stops.Stop.TheVariants.{Ended, Asked, Failed, Device, Limit, NoMemory}
 
--- the run went to an end: nothing is in flight, and all events are behind the last mark
+-- the run went to an end: nothing is in flight, and all events are behind the last mark, which was made since the opening
 pub record IsSettled {P D S : Type 0} (u : UnitValue P D S) : Type 0 where
   pub going : IsGoing u
   pub idle : u.core.callbacks.flights ≡ []
   pub marked : u.core.since ≡ []
+  pub committed : 1 < length u.marks
 
 -- a turn failed
 pub record IsFailed {P D S : Type 0} (u : UnitValue P D S) : Type 0 where

@@ -18,6 +18,7 @@ use Rattle.unit_steps.specs.Following.{MayFollow}
 use Rattle.samza_model.specs.Marks.{AreMarks, Files, FromMark, FromBegun, IsMark, MayBegun, RestoresTo, ImagesStand, last_mark}
 use Rattle.unit_steps.specs.Growing.{HaveGrown}
 use Rattle.unit_steps.specs.Leaving.{HoldAll, IsLeft}
+use Rattle.unit_steps.specs.Moments.{FromMarks}
 use Rattle.unit_steps.specs.Units.{UnitValue, Stands, Adds, Keeps, SameGiven}
 
 -- the unit with another core
@@ -43,6 +44,12 @@ begun_more k e t marks (Some b) c within f =
       next = λ p lt. subst (λ (h : List Event). next_at (Some f.made) p ≡ Some (low k.setup (start_at k p) h p)) (sym same) (f.next p lt);
       to = subst (λ (h : List Event). RestoresTo k t.before c (Some f.made) h) (sym same) f.to;
     }
+
+pub from_marks_more : (k : Given) (e : Event) (t : History) (marks : List KeptMark) (begun : Option ℕ) (a c : Image) → IfSome begun (λ b. b ≤ length t.since) → FromMarks k t marks begun a c → FromMarks k (with_event e t) marks begun a c
+from_marks_more k e t marks begun a c within f = record {
+  from = elim f.from [ inl from ↦ inl (from_more k e t marks (length t.parts) c from) | inr b ↦ inr (begun_more k e t marks begun c within b) ];
+  others = f.others;
+}
 
 left_more : (k : Given) (e : Event) (t : History) (marks : List KeptMark) (c : Image) (b : ℕ) → b ≤ length t.since → IsLeft k t marks b c → IsLeft k (with_event e t) marks b c
 left_more k e t marks c b within left = elim left [

@@ -30,9 +30,10 @@ use Rattle.samza_model.specs.Requests.{IsPrompt}
 use Rattle.samza_model.specs.Marks.{AreMarks, IsMark, Files, ImagesStand, last_mark}
 use Rattle.unit_steps.specs.Growing.{GrownBy, HaveGrown}
 use Rattle.unit_steps.specs.Leaving.{IsLeft}
+use Rattle.unit_steps.specs.Moments.{FromMarks}
 use Rattle.unit_steps.specs.Units.{UnitValue, Stands, Marks, Begins, SameGiven, OpenOnDisk}
 use Rattle.unit_steps.proofs.Leaving.{left_is}
-use Rattle.unit_steps.proofs.Marking.{files_made, images_made, images_begun, left_begun, older_marked, restored}
+use Rattle.unit_steps.proofs.Marking.{files_made, images_made, images_begun, left_begun, moments_begun, moments_made, older_marked, restored}
 
 -- the unit behind a commit
 abbrev pub with_commit : {P D S : Type 0} → UnitValue P D S → D → CoreValue → KeptMark → UnitValue P D S
@@ -106,6 +107,24 @@ module _ {P D S : Type 0} (meaning : P → Meaning) (tells : Type 0) (reads : D 
       where
         broken_now : true ≡ false → ⊥
         broken_now e = cc
+
+    module _ (told : tells) (counted : (n : ℕ) (c : Image) → n ≤ number old.disk → images old.disk c → since old.disk n c) (from : D)
+        (so_far : LeavesOnly number images since from old.disk (FromMarks (given o old.core) t old.marks old.begun)) where
+      none_begun : LeavesOnly number images since from old.disk (FromMarks (given o old.core) t old.marks None)
+      none_begun = subst (λ (b : Option ℕ). LeavesOnly number images since from old.disk (FromMarks (given o old.core) t old.marks b)) (s.sound sound) so_far
+
+      pub begins_moments : LeavesOnly number images since from disk (FromMarks (given o old.core) t old.marks (Some (length old.core.since)))
+      begins_moments =
+          subst (λ (n : ℕ). LeavesOnly number images since from disk (FromMarks (given o old.core) t old.marks (Some n))) (ap length (sym s.journal))
+          (moments_begun number images since old.disk disk (given o old.core) t old.core.held s.core.held old.marks (reads old.disk) (s.files sound told) (here told) (crash_none told) (lane_at old.core.lanes 0).low made one (low_here o old.core (whole t) (length (marked t)) s.core one)
+          from counted none_begun (leaves told))
+
+      pub marks_moments : (core : CoreValue) → Commits old.core core
+          → LeavesOnly number images since from disk (FromMarks (given o core) (with_mark t) (record { checkpoint = Some made; at = number disk } ∷ old.marks) None)
+      marks_moments core commits =
+          subst (λ (k : Given). LeavesOnly number images since from disk (FromMarks k (with_mark t) (record { checkpoint = Some made; at = number disk } ∷ old.marks) None)) (sym (commits.same o))
+          (moments_made number images since old.disk disk (given o old.core) t old.core.held s.core.held old.marks (reads old.disk) (s.files sound told) (here told) (crash_none told) (lane_at old.core.lanes 0).low made one (low_here o old.core (whole t) (length (marked t)) s.core one)
+          from counted none_begun (leaves told))
 
     -- the files grew by the commit
     grows : (c : Image) → length old.core.held.stores ≡ length old.core.setup.stores → IsCommitted old.core.setup (reads old.disk) c (last_mark old.marks) (lane_at old.core.lanes 0).low (state_of old.core.held) (unlogged_of old.core.held.stores) made

@@ -1,9 +1,9 @@
 -- What a unit keeps, over its calls.
-use Rattle.std.proofs.Common.{ℕ, ◌≡◌, ◌≤◌, ◌<◌, ◌+◌, ◌-◌, List, [], ◌∷◌, length, Option, Some, None, Bool, true, false, refl, sym, ◌∙◌, ap, subst, arith, slice_get}
+use Rattle.std.proofs.Common.{ℕ, ◌≡◌, ◌≤◌, ◌<◌, ◌+◌, ◌-◌, List, [], ◌∷◌, length, get_or, Option, Some, None, Bool, true, false, refl, sym, ◌∙◌, ap, subst, arith, slice_get}
 use Rattle.std.specs.Prelude.{IfSome}
 use Rattle.samza_model.specs.declared.messages.Record.{Record}
 use Rattle.samza_model.specs.declared.setups.Setup.{Setup}
-use Rattle.samza_model.specs.Files.{Image}
+use Rattle.samza_model.specs.Files.{Image, changelog_file, checkpoint_file, output_file}
 use Rattle.samza_model.specs.Meaning.{Meaning}
 use Rattle.samza_model.specs.Partition.{Partition, partition_of, message}
 use Rattle.samza_model.proofs.Laws.{message_in}
@@ -14,6 +14,9 @@ use Rattle.unit_logs.specs.declared.writing.Logs.{Logs}
 use Rattle.unit_logs.specs.Standing.{IsSetUp}
 use Rattle.samza_model.specs.Histories.{with_event}
 use Rattle.samza_model.specs.Marks.{last_mark}
+use Rattle.topic_log.specs.declared.logs.Log.{Log}
+use Rattle.restore_trim.specs.Standing.{IsOpenAt}
+use Rattle.unit_steps.specs.Moments.{SameOfTask}
 use Rattle.unit_steps.specs.Units.{UnitValue, Stands, Adds, Keeps, IsUnit, OpenOnDisk}
 use Rattle.unit_steps.proofs.Adding.{with_core}
 
@@ -63,3 +66,23 @@ module _ {P D S : Type 0} (meaning : P → Meaning) (tells : Type 0) (reads : D 
         history = inv.history;
         stands = k.history inv.outside inv.history inv.stands;
       }
+
+-- in each image a log that is open has its file as it reads
+durable_at : (reads : Image) (images : Image → Type 0) (file : ℕ) (log : Log) (frames : List (List Record)) → IsOpenAt reads images file log frames → (c : Image) → images c → c file ≡ reads file
+durable_at reads images file log frames o c now = subst (λ (f : ℕ). c f ≡ reads f) o.file_is (o.is_open.durable c now)
+
+-- while no commit answered Device, each image has the task's files as they read
+pub same_of_task : {P D S : Type 0} (meaning : P → Meaning) (tells : Type 0) (reads : D → Image) (number : D → ℕ) (images : D → Image → Type 0) (since : D → ℕ → Image → Type 0) (logs : Logs) (u : UnitValue P D S)
+    → IsUnit meaning tells reads number images since logs u → u.broken ≡ false → tells → (c : Image) → images u.disk c → SameOfTask (length u.core.setup.stores) (length u.core.setup.outputs) (reads u.disk) c
+same_of_task meaning tells reads number images since logs u inv sound told c now =
+    let on = inv.on_disk sound told in
+    let at = durable_at (reads u.disk) (images u.disk) in
+    record {
+      checkpoints = at checkpoint_file logs.marks on.marks.frames on.marks.is_open c now;
+      changelogs = λ i lt.
+          let o = on.stores i logs.marks lt in
+          at (changelog_file i) (get_or logs.changelogs.items i logs.marks) o.frames o.is_open c now;
+      logs = λ j lt.
+          let o = on.outputs j logs.marks (omega (arith, lt, inv.outputs_are)) in
+          at (output_file j) (get_or logs.outputs.items j logs.marks) o.0 o.1 c now;
+    }

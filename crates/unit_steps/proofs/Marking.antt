@@ -12,6 +12,7 @@ use Rattle.samza_model.specs.Logs.{HasLog, joined}
 use Rattle.samza_model.specs.Meaning.{Meaning}
 use Rattle.samza_model.specs.Restored.{IsNamed, Restores, HoldsContent, id_of, next_at, count_at, store_file}
 use Rattle.disk_model.specs.Images.{LeavesOnly}
+use Rattle.disk_model.proofs.Laws.{followed}
 use Rattle.topic_log.proofs.Laws.{joined-append, log_unique, frames_unique}
 use Rattle.samza_model.specs.declared.events.Event.{Event}
 use Rattle.samza_model.specs.Events.{older, low, flights, first_failure, window_open, state_after, is_covered, deliveries_of}
@@ -28,6 +29,7 @@ use Rattle.samza_model.specs.Histories.{History, all_of, whole, marked, marked_a
 use Rattle.samza_model.specs.Requests.{IsPrompt}
 use Rattle.samza_model.specs.Marks.{AreMarks, IsMark, AreSpelled, SpellsLast, BeginsWith, Files, FromMark, FromBegun, MayBegun, RestoresTo, ImagesStand, last_mark}
 use Rattle.unit_steps.specs.Leaving.{HoldAll, HoldOneMore, IsLeft}
+use Rattle.unit_steps.specs.Moments.{FromMarks}
 use Rattle.unit_steps.specs.Units.{UnitValue, Stands, Marks, Begins, SameGiven}
 
 dropped : {X : Type 0} (xs ys : List X) → drop (length xs) (xs ++ ys) ≡ ys
@@ -236,6 +238,16 @@ module _ {D : Type 0} (number : D → ℕ) (images : D → Image → Type 0) (si
     here = λ c now. elim (run.each c (counts c now)).2.1 [ inl un ↦ inl (uncommitted 0 c un) | inr is_made ↦ inr (begun_at c is_made) ];
   }
 
+  module _ (from : D) (counted : (n : ℕ) (c : Image) → n ≤ number old → images old c → since old n c) (so_far : LeavesOnly number images since from old (FromMarks k t marks None)) where
+    pub moments_begun : LeavesOnly number images since old new Leaves → LeavesOnly number images since from new (FromMarks k t marks (Some (length t.since)))
+    moments_begun run =
+        followed number images since from old new (FromMarks k t marks None) Leaves (FromMarks k t marks (Some (length t.since))) counted so_far run
+        (λ a b c p q. record {
+          from = elim q.1 [ inl un ↦ inl (uncommitted (length t.parts) c un) | inr is_made ↦ inr (begun_at c is_made) ];
+          others = λ f other. q.0 f other ∙ p.others f other;
+        })
+        (λ a b p. record { from = elim p.from [ inl from ↦ inl from | inr none ↦ absurd none ]; others = p.others })
+
   -- what it leaves in the files
   pub left_begun : ((c : Image) → images new c → since new (number old) c) → LeavesOnly number images since old new Leaves → IsMark k (whole t) (last_mark marks) (Some made)
       → (c : Image) → images new c → IsLeft k t marks (length t.since) c
@@ -252,6 +264,19 @@ module _ {D : Type 0} (number : D → ℕ) (images : D → Image → Type 0) (si
 
   newest : (n : ℕ) (c : Image) → IsCommitted k.setup reads c (last_mark marks) next (state_of held) (unlogged_of held.stores) made → FromMark k (with_mark t) (Made ∷ marks) n c
   newest n c is_made = record { place = 0; mark = Made; newer = omega arith; is = refl; to = made_restores k t held is marks reads files (last_mark marks) next c made is_made }
+
+  pub moments_made : (from : D) → ((n : ℕ) (c : Image) → n ≤ number old → images old c → since old n c) → LeavesOnly number images since from old (FromMarks k t marks None)
+      → LeavesOnly number images since old new Leaves → LeavesOnly number images since from new (FromMarks k (with_mark t) (Made ∷ marks) None)
+  moments_made from counted so_far run =
+      followed number images since from old new (FromMarks k t marks None) Leaves (FromMarks k (with_mark t) (Made ∷ marks) None) counted so_far run
+      (λ a b c p q. record {
+        from = elim q.1 [
+          | inl un ↦ inl (shifted (length t.parts) c (uncommitted (length t.parts) c un))
+          | inr is_made ↦ inl (newest (suc (length t.parts)) c is_made)
+        ];
+        others = λ f other. q.0 f other ∙ p.others f other;
+      })
+      (λ a b p. record { from = elim p.from [ inl from ↦ inl (shifted (length t.parts) b from) | inr none ↦ absurd none ]; others = p.others })
 
   -- a commit that was made
   pub images_made : ((c : Image) → since new (number new) c → images new c) → LeavesOnly number images since old new Leaves

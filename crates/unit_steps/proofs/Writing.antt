@@ -25,7 +25,7 @@ use Rattle.unit_logs.specs.Unlogged.{unlogged_of}
 use Rattle.unit_logs.specs.Written.{AreSound, AreWritten, StandOpen}
 use Rattle.unit_logs.proofs.Laws.{commits, left_made, left_others, stand_open, stands_made}
 use Rattle.unit_steps.specs.Units.{UnitValue, Stands, Marks, Begins, IsUnit, OpenOnDisk}
-use Rattle.unit_steps.proofs.Committing.{with_commit, with_begun, AtRest, begins_stand, marks_stand, on_disk}
+use Rattle.unit_steps.proofs.Committing.{with_commit, with_begun, AtRest, begins_moments, begins_stand, marks_moments, marks_stand, on_disk}
 use Rattle.unit_steps.proofs.Keeping.{one_start}
 
 -- the logs are open, whatever is held
@@ -48,6 +48,7 @@ module _ {P D S : Type 0} (meaning : P → Meaning) (tells : Type 0) (reads : D 
   stand_open_now told = stand_open old.core.setup (reads old.disk) (images old.disk) logs (last_mark old.marks) old.core.held (on_disk_now told) inv.changelogs_are
 
   module _ (disk : D) (plan : Frames) (made : Checkpoint) (p : PlansCommit old.core.setup logs old.core.held (lane_at old.core.lanes 0).low plan made) (here : tells → images old.disk (reads old.disk))
+      (counted : tells → (n : ℕ) (c : Image) → n ≤ number old.disk → images old.disk c → since old.disk n c)
       (any : tells → (had : TaskFrames) (more : PlanRecords) → StandWith (reads old.disk) (images old.disk) logs had → IsPlanOf logs plan more
       → LeavesOnly number images since old.disk disk (WriteLeaves (length logs.changelogs.items) (length logs.outputs.items) had more)) where
     run : tells → (contents : List Content) → Restores old.core.setup (reads old.disk) (last_mark old.marks) contents
@@ -73,6 +74,7 @@ module _ {P D S : Type 0} (meaning : P → Meaning) (tells : Type 0) (reads : D 
           marks = refl;
           begun = (refl, sound, refl);
           history = λ o t s. begins_stand meaning tells reads number images since old disk made one sound here run o t s (λ told. counts told (later told)) now rest p.named id_is p.next_is;
+          moments = λ o t s told from so_far. begins_moments meaning tells reads number images since old disk made one sound here run o t s told (counted told) from so_far;
         }
 
         pub unfinished_unit : IsUnit meaning tells reads number images since logs' (with_begun old disk (length old.core.since))
@@ -108,6 +110,7 @@ module _ {P D S : Type 0} (meaning : P → Meaning) (tells : Type 0) (reads : D 
           marks = refl;
           sound = (sound, refl, refl);
           history = λ o t s. marks_stand meaning tells reads number images since old disk made one sound here run o t s after core.sized.stores commits_core rest p.named id_is p.next_is only now done;
+          moments = λ o t s told from so_far. marks_moments meaning tells reads number images since old disk made one sound here run o t s told (counted told) from so_far after commits_core;
         }
 
         pub finished_unit : IsUnit meaning tells reads number images since logs' (with_commit old disk after (record { checkpoint = Some made; at = number disk }))

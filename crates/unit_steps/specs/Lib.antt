@@ -1,4 +1,5 @@
 pub mod Following
 pub mod Growing
 pub mod Leaving
+pub mod Moments
 pub mod Units

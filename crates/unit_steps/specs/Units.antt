@@ -20,6 +20,8 @@ use Rattle.restore_trim.specs.Standing.{IsOpenAt}
 use Rattle.core_steps.specs.Cores.{CoreValue, Outside, given, Stands as CoreStands}
 use Rattle.unit_steps.specs.Growing.{HaveGrown}
 use Rattle.unit_steps.specs.Leaving.{IsLeft}
+use Rattle.unit_steps.specs.Moments.{FromMarks}
+use Rattle.disk_model.specs.Images.{LeavesOnly}
 use Rattle.samza_model.specs.Ran.{is_of_window}
 use Rattle.unit_logs.specs.declared.writing.Logs.{Logs}
 use Rattle.unit_logs.specs.Appending.{AreOpen}
@@ -101,6 +103,10 @@ pub record Marks {P D S : Type 0} (meaning : P → Meaning) (tells : Type 0) (re
   pub sound : (old.broken ≡ false) × (new.broken ≡ false) × (new.begun ≡ None)
   pub history : (o : Outside) (t : History) → Stands meaning tells reads number images since o old t
       → Stands meaning tells reads number images since o new (with_mark t)
+  -- where each image since a moment was one of the marks up to then, so it is since
+  pub moments : (o : Outside) (t : History) → Stands meaning tells reads number images since o old t → tells → (from : D)
+      → LeavesOnly number images since from old.disk (FromMarks (given o old.core) t old.marks old.begun)
+      → LeavesOnly number images since from new.disk (FromMarks (given o new.core) (with_mark t) new.marks new.begun)
 
 -- a commit was begun and not finished: it stands by the same events, and an image may restore to the begun mark
 pub record Begins {P D S : Type 0} (meaning : P → Meaning) (tells : Type 0) (reads : D → Image) (number : D → ℕ) (images : D → Image → Type 0) (since : D → ℕ → Image → Type 0) (old new : UnitValue P D S) : Type 0 where
@@ -110,6 +116,9 @@ pub record Begins {P D S : Type 0} (meaning : P → Meaning) (tells : Type 0) (r
   pub begun : (new.begun ≡ Some (length old.core.since)) × (old.broken ≡ false) × (new.broken ≡ true)
   pub history : (o : Outside) (t : History) → Stands meaning tells reads number images since o old t
       → Stands meaning tells reads number images since o new t
+  pub moments : (o : Outside) (t : History) → Stands meaning tells reads number images since o old t → tells → (from : D)
+      → LeavesOnly number images since from old.disk (FromMarks (given o old.core) t old.marks old.begun)
+      → LeavesOnly number images since from new.disk (FromMarks (given o new.core) t new.marks new.begun)
 
 -- a store's changelog is open and has as many records as counted, or more
 pub record StoreOpen (reads : Image) (images : Image → Type 0) (file count : ℕ) (log : Log) : Type 0 where

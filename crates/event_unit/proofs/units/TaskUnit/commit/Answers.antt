@@ -49,7 +49,7 @@ invariant_of-self-in-Err g c =
     let same : with_begun old c.write.new.disk (length u.core.since) ≡ record { job = old.job; shelf = old.shelf; messages = old.messages; core = u.core; disk = c.write.new.disk; marks = reverse c.make_room.new.marks.items; begun = Some c.events.result; broken = true } =
     λ i. record { job = old.job; shelf = old.shelf; messages = old.messages; core = u.core; disk = c.write.new.disk; marks = reverse (sym c.make_room.ensures.same i); begun = Some (sym c.events.ensures i); broken = true } in
     subst (λ v. IsUnit g.J.Job.meaning disk.tells disk.reads disk.call_number disk.images disk.images_since c.write.new.self v) same
-    (unfinished_unit g.J.Job.meaning disk.tells disk.reads disk.call_number disk.images disk.images_since old u.logs c.self.invariant c.plan_of.ensures.core sound c.write.new.disk plan.frames plan.mark p (law.read_is_image u.disk) c.write.ensures.any_moment c.write.new.self c.in-Err.ensures.changelogs c.in-Err.ensures.outputs (λ told later image now. law.counts_now c.write.new.disk (disk.call_number u.disk) image told later now) (law.read_is_image c.write.new.disk) (at_rest u.broken u.core allowed))
+    (unfinished_unit g.J.Job.meaning disk.tells disk.reads disk.call_number disk.images disk.images_since old u.logs c.self.invariant c.plan_of.ensures.core sound c.write.new.disk plan.frames plan.mark p (law.read_is_image u.disk) (λ told n image low now. law.counts_now u.disk n image told low now) c.write.ensures.any_moment c.write.new.self c.in-Err.ensures.changelogs c.in-Err.ensures.outputs (λ told later image now. law.counts_now c.write.new.disk (disk.call_number u.disk) image told later now) (law.read_is_image c.write.new.disk) (at_rest u.broken u.core allowed))
 
 pub returns-in-Err-clause-begun : goal.returns-in-Err-clause-begun
 returns-in-Err-clause-begun g c = λ _.
@@ -65,7 +65,7 @@ returns-in-Err-clause-begun g c = λ _.
     λ i. record { job = old.job; shelf = old.shelf; messages = old.messages; core = u.core; disk = c.write.new.disk; marks = reverse (sym c.make_room.ensures.same i); begun = Some (sym c.events.ensures i); broken = true } in
     subst (λ v. Begins g.J.Job.meaning disk.tells disk.reads disk.call_number disk.images disk.images_since c.args.self.now v) same
     (subst (λ v. Begins g.J.Job.meaning disk.tells disk.reads disk.call_number disk.images disk.images_since v (with_begun old c.write.new.disk (length u.core.since))) c.self.view_is
-    (unfinished g.J.Job.meaning disk.tells disk.reads disk.call_number disk.images disk.images_since old u.logs c.self.invariant c.plan_of.ensures.core sound c.write.new.disk plan.frames plan.mark p (law.read_is_image u.disk) c.write.ensures.any_moment c.write.new.self c.in-Err.ensures.changelogs c.in-Err.ensures.outputs (λ told later image now. law.counts_now c.write.new.disk (disk.call_number u.disk) image told later now) (law.read_is_image c.write.new.disk) (at_rest u.broken u.core allowed)))
+    (unfinished g.J.Job.meaning disk.tells disk.reads disk.call_number disk.images disk.images_since old u.logs c.self.invariant c.plan_of.ensures.core sound c.write.new.disk plan.frames plan.mark p (law.read_is_image u.disk) (λ told n image low now. law.counts_now u.disk n image told low now) c.write.ensures.any_moment c.write.new.self c.in-Err.ensures.changelogs c.in-Err.ensures.outputs (λ told later image now. law.counts_now c.write.new.disk (disk.call_number u.disk) image told later now) (law.read_is_image c.write.new.disk) (at_rest u.broken u.core allowed)))
 
 pub invariant_of-self-2 : goal.invariant_of-self-2
 invariant_of-self-2 g c =
@@ -92,7 +92,7 @@ invariant_of-self-2 g c =
       broken = false;
     } in
     subst (λ v. IsUnit g.J.Job.meaning disk.tells disk.reads disk.call_number disk.images disk.images_since c.write.new.self v) same
-    (finished_unit g.J.Job.meaning disk.tells disk.reads disk.call_number disk.images disk.images_since old u.logs c.self.invariant c.plan_of.ensures.core sound c.write.new.disk plan.frames plan.mark p (law.read_is_image u.disk) c.write.ensures.any_moment c.write.new.self c.in-Ok.ensures.changelogs c.in-Ok.ensures.outputs after c.committed.ensures.commits (at_rest u.broken u.core allowed) (λ told image left. law.only_now c.write.new.disk image told left) (law.read_is_image c.write.new.disk) c.in-Ok.ensures.follows c.in-Ok.ensures.sound (c.in-Ok.ensures.counted ∙ ap (λ n. count_of u.logs.marks + n) p.frame.2.count_is))
+    (finished_unit g.J.Job.meaning disk.tells disk.reads disk.call_number disk.images disk.images_since old u.logs c.self.invariant c.plan_of.ensures.core sound c.write.new.disk plan.frames plan.mark p (law.read_is_image u.disk) (λ told n image low now. law.counts_now u.disk n image told low now) c.write.ensures.any_moment c.write.new.self c.in-Ok.ensures.changelogs c.in-Ok.ensures.outputs after c.committed.ensures.commits (at_rest u.broken u.core allowed) (λ told image left. law.only_now c.write.new.disk image told left) (law.read_is_image c.write.new.disk) c.in-Ok.ensures.follows c.in-Ok.ensures.sound (c.in-Ok.ensures.counted ∙ ap (λ n. count_of u.logs.marks + n) p.frame.2.count_is))
 
 pub returns-clause-marked : goal.returns-clause-marked
 returns-clause-marked g c =
@@ -122,7 +122,7 @@ returns-clause-marked g c =
       refl,
       subst (λ v. Marks g.J.Job.meaning disk.tells disk.reads disk.call_number disk.images disk.images_since c.args.self.now v plan.mark) same
           (subst (λ v. Marks g.J.Job.meaning disk.tells disk.reads disk.call_number disk.images disk.images_since v (with_commit old c.write.new.disk after m) plan.mark) c.self.view_is
-          (finished g.J.Job.meaning disk.tells disk.reads disk.call_number disk.images disk.images_since old u.logs c.self.invariant c.plan_of.ensures.core sound c.write.new.disk plan.frames plan.mark p (law.read_is_image u.disk) c.write.ensures.any_moment c.write.new.self c.in-Ok.ensures.changelogs c.in-Ok.ensures.outputs after c.committed.ensures.commits (at_rest u.broken u.core allowed) (λ told image left. law.only_now c.write.new.disk image told left) (law.read_is_image c.write.new.disk) c.in-Ok.ensures.follows c.in-Ok.ensures.sound (c.in-Ok.ensures.counted ∙ ap (λ n. count_of u.logs.marks + n) p.frame.2.count_is))),
+          (finished g.J.Job.meaning disk.tells disk.reads disk.call_number disk.images disk.images_since old u.logs c.self.invariant c.plan_of.ensures.core sound c.write.new.disk plan.frames plan.mark p (law.read_is_image u.disk) (λ told n image low now. law.counts_now u.disk n image told low now) c.write.ensures.any_moment c.write.new.self c.in-Ok.ensures.changelogs c.in-Ok.ensures.outputs after c.committed.ensures.commits (at_rest u.broken u.core allowed) (λ told image left. law.only_now c.write.new.disk image told left) (law.read_is_image c.write.new.disk) c.in-Ok.ensures.follows c.in-Ok.ensures.sound (c.in-Ok.ensures.counted ∙ ap (λ n. count_of u.logs.marks + n) p.frame.2.count_is))),
     )
 
 pub returns-in_err-plan-clause-limit : goal.returns-in_err-plan-clause-limit
