@@ -1,3 +1,4 @@
 pub mod Laws
 mod Taking
+mod Telling
 mod Wording

@@ -1,12 +1,16 @@
 -- What a report tells of a task, and of a unit as it stands.
-use Rattle.std.specs.Prelude.{ℕ, ◌≡◌, ◌<◌, ◌+◌, ◌-◌, List, [], ◌∷◌, length, slice_index_or}
+use Rattle.std.specs.Prelude.{ℕ, ◌≡◌, ◌<◌, ◌-◌, List, [], ◌∷◌, length, slice_index_or}
 use Rattle.std.specs.FinMap as fin
 use Rattle.samza_model.specs.declared.setups.Setup.{Setup}
-use Rattle.samza_model.specs.Content.{Content, sent_at, store_at}
+use Rattle.samza_model.specs.Content.{Content, store_at}
+use Rattle.samza_model.specs.Marks.{last_mark}
 use Rattle.samza_model.specs.Restored.{id_of}
-use Rattle.output_log.specs.Outputs.{cleared_at}
-use Rattle.task_unit.specs.Units.{UnitValue}
+use Rattle.output_log.specs.Outputs.{sent_count}
+use Rattle.core_steps.specs.Held.{contents_of}
+use Rattle.core_steps.specs.Lanes.{lane_at}
+use Rattle.task_core.specs.Seen.{sent_of}
 use Rattle.unit_opening.specs.Inputs.{input_of}
+use Rattle.unit_steps.specs.Units.{UnitValue}
 use Rattle.container_texts.specs.declared.reports.InputReport.{InputReport}
 use Rattle.container_texts.specs.declared.reports.StoreReport.{StoreReport}
 use Rattle.container_texts.specs.declared.reports.OutputReport.{OutputReport}
@@ -39,10 +43,9 @@ pub record ReportsTask (s : Setup) (id completed next end : ℕ) (stores : List 
   pub stores_are : AreRows (length s.stores) (store_report s stores) report.stores
   pub outputs_are : AreRows (length s.outputs) (output_report s sent) report.outputs
 
--- how many records a unit sent to an output since its opening, committed or not
-abbrev pub sent_by : {P D S : Type 0} → UnitValue P D S → ℕ → ℕ
-sent_by u j = cleared_at u.cleared j + length (sent_at u.state.sent j)
-
--- the report tells of a unit as it stands
+-- The report tells of a unit as it stands: its last mark's number, how many messages of its input are covered since its opening,
+-- the first one that isn't and where the input ends, its stores' contents, and how many records it sent to each output since its
+-- opening, committed or not.
 abbrev pub ReportsUnit : {P D S : Type 0} → UnitValue P D S → TaskReport → Type 0
-ReportsUnit u report = ReportsTask u.setup (id_of u.mark) (u.next - u.begun) u.next (length u.messages) u.state.stores (sent_by u) report
+ReportsUnit u report =
+    ReportsTask u.core.setup (id_of (last_mark u.marks)) ((lane_at u.core.lanes 0).low - slice_index_or u.core.starts 0 0) (lane_at u.core.lanes 0).low (slice_index_or u.core.ends 0 0) (contents_of u.core.held.stores) (sent_count (sent_of u.core.held)) report

@@ -3,11 +3,11 @@ ghost use Rattle.std.specs.Prelude.{◌≡◌, ◌≢◌};
 ghost use Rattle.container_texts.specs.Statuses.{failure_status, open_status, status_of};
 
 use config_values::What;
+use restore_trim::OpenFault;
 use samza_model::{Bin, Failure, NoMemory, Ssp, TaskName, Why};
 use std::alloc::Global;
 use std::error::Error;
 use std::fmt;
-use task_unit::{OneFault, OpenFault};
 
 /// Why a run ended otherwise than well: the first cause in the order of work.
 #[derive(Debug, Drop)]
@@ -56,7 +56,10 @@ impl fmt::Display for RunFault {
             RunFault::NoPartition => write!(f, "input has no partition"),
             RunFault::Device => write!(f, "device failed"),
             RunFault::NotOpened(fault) => write!(f, "task not opened: {fault}"),
-            RunFault::Failed(failure) => write!(f, "{}", OneFault::Failed(*failure)),
+            RunFault::Failed(failure) => {
+                write_turn(f, failure.place)?;
+                write_why(f, failure.why)
+            }
             RunFault::Limit => write!(f, "file too long"),
             RunFault::NoMemory => write!(f, "no memory"),
         }
@@ -69,6 +72,23 @@ fn write_key<W: fmt::Write>(f: &mut fmt::Formatter<W>, key: &Bin) -> fmt::Result
         f.write_char(char::from(*byte))?;
     }
     Ok(())
+}
+
+/// Writes the turn that failed: a message by its offset and its input, or the window.
+fn write_turn<W: fmt::Write>(f: &mut fmt::Formatter<W>, place: Option<(u32, u64)>) -> fmt::Result {
+    match place {
+        Some((input, offset)) => write!(f, "message {offset} of input {input} failed: "),
+        None => write!(f, "window failed: "),
+    }
+}
+
+fn write_why<W: fmt::Write>(f: &mut fmt::Formatter<W>, why: Why) -> fmt::Result {
+    match why {
+        Why::Code(code) => write!(f, "code {code}"),
+        Why::TooMany => write!(f, "too many acts"),
+        Why::Limits => write!(f, "act outside the limits"),
+        Why::Expired { delivered, now } => write!(f, "delivered {delivered} now {now}"),
+    }
 }
 
 impl Error for RunFault {}

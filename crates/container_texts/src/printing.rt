@@ -2,10 +2,10 @@
 ghost use Rattle.std.specs.Prelude.{◌≡◌, ◌≢◌, ◌≤◌, ◌⊎◌, ◌++◌, ◌∷◌, [], codes};
 ghost use Rattle.samza_model.specs.Counters.{Rose};
 ghost use Rattle.container_texts.specs.Printing.{Printed, Received, ReceivedPart, Tried};
-ghost use Rattle.container_texts.specs.Printing.{report_of, sink_line};
+ghost use Rattle.container_texts.specs.Printing.{is_device, report_of, sink_line};
 
 use crate::fault_lines::fault_line;
-use crate::faults::Stopped;
+use crate::faults::{RunFault, Stopped};
 use crate::reports::{TaskReport, report};
 use edge_io::Sink;
 use std::alloc::Global;
@@ -26,8 +26,43 @@ fn put_line<E: Sink>(err: &mut E, line: &[u8], status: u8) -> u8
     }
 }
 
-/// Writes the line of a fault, or `no memory` where there is none for it, and answers the status of what was written, or 7
-/// where it can't be written.
+/// Whether the fault is a device's, whose line has neither a name nor a number.
+fn is_device(fault: &RunFault) -> bool
+    ensures { result ≡ is_device fault.now }
+{
+    match fault {
+        RunFault::Device => true,
+        RunFault::Words { .. }
+        | RunFault::NoText
+        | RunFault::TextLimit
+        | RunFault::BadEscape { .. }
+        | RunFault::BadKey { .. }
+        | RunFault::NotBuilt { .. }
+        | RunFault::NoPartition
+        | RunFault::NotOpened(_)
+        | RunFault::Failed(_)
+        | RunFault::Limit
+        | RunFault::NoMemory => false,
+    }
+}
+
+/// Writes what can be told of a fault without memory: the line of a device's, and `no memory` in place of each other one.
+fn put_without_memory<E: Sink>(stopped: &Stopped, err: &mut E) -> u8
+    ensures printed { Printed E.tells (E.received err.old) (E.received err.new) stopped.now.task
+        stopped.now.inputs.items stopped.now.fault result }
+    ensures failed { result ≡ 7 → Rose (E.fault_count err.old) (E.fault_count err.new) }
+    ensures other { result ≢ 0 }
+    ensures later { E.fault_count err.old ≤ E.fault_count err.new }
+{
+    if is_device(&stopped.fault) {
+        put_line(err, b"device failed\n", 4)
+    } else {
+        put_line(err, b"no memory\n", 8)
+    }
+}
+
+/// Writes the line of a fault, and answers the status of what was written, or 7 where it can't be written. Where there is no
+/// memory for the line it is `no memory`, but for a device's failure, whose line needs none.
 pub fn put_fault<E: Sink>(alloc: Global, stopped: &Stopped, err: &mut E) -> u8
     ensures printed { Printed E.tells (E.received err.old) (E.received err.new) stopped.now.task
         stopped.now.inputs.items stopped.now.fault result }
@@ -38,7 +73,7 @@ pub fn put_fault<E: Sink>(alloc: Global, stopped: &Stopped, err: &mut E) -> u8
     let fault = &stopped.fault;
     match fault_line(alloc, stopped.task, stopped.inputs.as_slice(), fault) {
         Ok(line) => put_line(err, line.as_slice(), fault.status()),
-        Err(_) => put_line(err, b"no memory\n", 8),
+        Err(_) => put_without_memory(stopped, err),
     }
 }
 

@@ -1,21 +1,34 @@
 // What the report of a unit tells.
-ghost use Rattle.std.specs.Prelude.{◌≡◌, ◌<◌, ◌∷◌, [], length, IfOk};
-ghost use Rattle.container_texts.specs.UnitReports.{input_report, store_report, output_report, sent_by, AreRows, ReportsUnit};
+ghost use Rattle.std.specs.Prelude.{◌≡◌, ◌<◌, ◌≤◌, ◌∷◌, [], length, slice_index_or, IfOk};
+ghost use Rattle.core_steps.specs.Held.{contents_of};
+ghost use Rattle.core_steps.specs.Lanes.{lane_at};
+ghost use Rattle.output_log.specs.Outputs.{sent_count};
+ghost use Rattle.task_core.specs.Seen.{lane_state, sent_of};
+ghost use Rattle.container_texts.specs.UnitReports.{input_report, store_report, output_report, AreRows, ReportsUnit};
 
 use crate::reports::{InputReport, OutputReport, StoreReport, TaskReport};
 use disk_model::{Disk, Shelf};
+use event_unit::{LaneState, TaskUnit};
 use samza_model::{Items, Job, NoMemory, Plain};
 use std::alloc::Global;
-use task_unit::OneUnit;
+
+/// Where the one input stands.
+fn input_lane<'j, J: Job, D: Disk, S: Shelf>(unit: &TaskUnit<'j, J, D, S>) -> LaneState
+    ensures lane { result ≡ lane_state unit.now.core 0 }
+    ensures begun { result.start ≤ result.low }
+{
+    let _status = unit.status();
+    unit.lane(0)
+}
 
 fn input_reports<'j, J: Job, D: Disk, S: Shelf>(
     alloc: Global,
-    unit: &OneUnit<'j, J, D, S>,
+    unit: &TaskUnit<'j, J, D, S>,
 ) -> Result<Vec<InputReport>, NoMemory>
-    ensures { IfOk result (λ r. r.items ≡ input_report unit.now.setup unit.now.next
-        (length unit.now.messages) ∷ []) }
+    ensures { IfOk result (λ r. r.items ≡ input_report unit.now.core.setup
+        (lane_at unit.now.core.lanes 0).low (slice_index_or unit.now.core.ends 0 0) ∷ []) }
 {
-    let lane = unit.lane();
+    let lane = input_lane(unit);
     let mut reports = Vec::new(alloc);
     reports.push(InputReport {
         ssp: unit.setup().inputs.as_slice()[0].ssp.copy(alloc)?,
@@ -27,11 +40,11 @@ fn input_reports<'j, J: Job, D: Disk, S: Shelf>(
 
 fn store_reports<'j, J: Job, D: Disk, S: Shelf>(
     alloc: Global,
-    unit: &OneUnit<'j, J, D, S>,
+    unit: &TaskUnit<'j, J, D, S>,
 ) -> Result<Vec<StoreReport>, NoMemory>
     ensures { IfOk result
-        (λ r. AreRows (length unit.now.setup.stores)
-        (store_report unit.now.setup unit.now.state.stores) r.items) }
+        (λ r. AreRows (length unit.now.core.setup.stores)
+        (store_report unit.now.core.setup (contents_of unit.now.core.held.stores)) r.items) }
 {
     let stores = unit.setup().stores.as_slice();
     let mut reports = Vec::new(alloc);
@@ -46,11 +59,11 @@ fn store_reports<'j, J: Job, D: Disk, S: Shelf>(
 
 fn output_reports<'j, J: Job, D: Disk, S: Shelf>(
     alloc: Global,
-    unit: &OneUnit<'j, J, D, S>,
+    unit: &TaskUnit<'j, J, D, S>,
 ) -> Result<Vec<OutputReport>, NoMemory>
     ensures { IfOk result
-        (λ r. AreRows (length unit.now.setup.outputs)
-        (output_report unit.now.setup (sent_by unit.now)) r.items) }
+        (λ r. AreRows (length unit.now.core.setup.outputs)
+        (output_report unit.now.core.setup (sent_count (sent_of unit.now.core.held))) r.items) }
 {
     let outputs = unit.setup().outputs.as_slice();
     let mut reports = Vec::new(alloc);
@@ -66,11 +79,11 @@ fn output_reports<'j, J: Job, D: Disk, S: Shelf>(
 /// What is told of a unit's task.
 pub fn task_report<'j, J: Job, D: Disk, S: Shelf>(
     alloc: Global,
-    unit: &OneUnit<'j, J, D, S>,
+    unit: &TaskUnit<'j, J, D, S>,
 ) -> Result<TaskReport, NoMemory>
     ensures { IfOk result (λ r. ReportsUnit unit.now r) }
 {
-    let lane = unit.lane();
+    let lane = input_lane(unit);
     Ok(TaskReport {
         task: unit.setup().task,
         checkpoint: unit.last_id(),

@@ -1,5 +1,5 @@
 -- What the statuses tell of the faults that they come from.
-use Rattle.std.proofs.Common.{ℕ, ◌≡◌, ◌≢◌, ◌⊎◌, List, inl, inr, refl, sym, subst, ap, ◌∙◌, arith}
+use Rattle.std.proofs.Common.{ℕ, ◌≡◌, ◌≢◌, ◌⊎◌, List, Result, Err, inl, inr, sym, subst, ap, ◌∙◌, arith}
 use Rattle.std.proofs.lemmas.Bool.{cases_eq}
 use Rattle.samza_model.specs.declared.messages.Ssp.{Ssp}
 use Rattle.samza_model.specs.declared.messages.TaskName.{TaskName}
@@ -7,16 +7,20 @@ use Rattle.samza_model.specs.declared.setups.Setup.{Setup}
 use Rattle.samza_model.specs.declared.turns.Why.{Why}
 use Rattle.samza_model.specs.declared.turns.Why.TheVariants.{Code, TooMany, Limits, Expired}
 use Rattle.samza_model.specs.Files.{Image}
+use Rattle.disk_model.specs.declared.names.DiskName.{DiskName}
 use Rattle.disk_model.specs.Folders.{Folder}
 use Rattle.restore_trim.specs.declared.faults.OpenFault.{OpenFault}
 use Rattle.restore_trim.specs.declared.faults.OpenFault.TheVariants.{Device as OpenDevice, Damaged, Shape, Ahead, Limit as OpenLimit, NoMemory as OpenNoMemory}
 use Rattle.container_texts.specs.declared.faults.RunFault.{RunFault}
 use Rattle.container_texts.specs.declared.faults.RunFault.TheVariants.{Words, NoText, TextLimit, BadEscape, BadKey, NotBuilt, NoPartition, Device, NotOpened, Failed, Limit, NoMemory}
-use Rattle.samza_container.specs.Causes.{IsOfFolder, TellsOf}
+use Rattle.task_runs.specs.Tells.{TellsOf}
+use Rattle.samza_container.specs.Causes.{IsOfFolder}
 use Rattle.container_texts.specs.Statuses.{failure_status, open_status, status_of}
 use Rattle.container_texts.specs.Printing.{Printed}
-use Rattle.samza_container.specs.Leaves.{FolderLeaves, MayCommit}
-use Rattle.samza_container.specs.Reported.{IsCause}
+use Rattle.container_texts.specs.declared.reports.TaskReport.{TaskReport}
+use Rattle.samza_container.specs.Done.{FolderDone}
+use Rattle.samza_container.specs.Naming.{IsCause}
+use Rattle.samza_container.proofs.Done.{refused_done}
 use Rattle.samza_container.proofs.Naming.{no_memory}
 
 failure_is : (why : Why) → failure_status why ≢ 2
@@ -63,18 +67,8 @@ folder_status (Failed f) of is = of
 folder_status Limit of is = of
 folder_status NoMemory of is = omega (arith, is)
 
--- what a crash leaves is the same behind another status, with which a commit may have been begun too
-pub leaves_as : (f : Folder) (status status' : ℕ) → (MayCommit status → MayCommit status') → (a c : Image) → FolderLeaves f status a c → FolderLeaves f status' a c
-leaves_as f status status' go a c left = elim left.3 [
-  | inl opening ↦ (left.0, left.1, left.2, inl opening)
-  | inr commits ↦ (left.0, left.1, left.2, inr (go commits.0, commits.1))
-]
-
-pub may_seven : MayCommit 7
-may_seven = inr (inr (inl refl))
-
-pub may_eight : MayCommit 8
-may_eight = inr (inr (inr refl))
+one_err : (e e' : RunFault) → ◌≡◌ {A = Result TaskReport RunFault} (Err e) (Err e') → e ≡ e'
+one_err e e' is = cc is
 
 -- the status that is answered of a fault
 module _ (tells : Type 0) (before after : List ℕ) (task : TaskName) (inputs : List Ssp) (fault : RunFault) (result : ℕ) (p : Printed tells before after task inputs fault result) where
@@ -84,15 +78,8 @@ module _ (tells : Type 0) (before after : List ℕ) (task : TaskName) (inputs : 
     | inl seven ↦ inl seven
     | inr other ↦ elim p.cause_is [
       | inl same ↦ inr (inr (p.status_is other ∙ ap status_of same, same))
-      | inr memory ↦ inr (inl (p.status_is other ∙ ap status_of memory))
+      | inr memory ↦ inr (inl (p.status_is other ∙ ap status_of memory.0))
     ]
-  ]
-
-  pub printed_may : MayCommit (status_of fault) → MayCommit result
-  printed_may may = elim one_of [
-    | inl seven ↦ subst MayCommit (sym seven) may_seven
-    | inr (inl eight) ↦ subst MayCommit (sym eight) may_eight
-    | inr (inr same) ↦ subst MayCommit (sym same.0) may
   ]
 
   -- what has no status of a printer's own is the fault's
@@ -106,5 +93,14 @@ module _ (tells : Type 0) (before after : List ℕ) (task : TaskName) (inputs : 
   pub printed_cause : (told : Type 0) (words : List (List ℕ)) (f : Folder) → IsCause told words f task inputs fault → IsCause told words f task inputs p.cause
   printed_cause told words f is = elim p.cause_is [
     | inl same ↦ subst (λ (e : RunFault). IsCause told words f task inputs e) (sym same) is
-    | inr memory ↦ subst (λ (e : RunFault). IsCause told words f task inputs e) (sym memory) (no_memory told words f task inputs)
+    | inr memory ↦ subst (λ (e : RunFault). IsCause told words f task inputs e) (sym memory.0) (no_memory told words f task inputs)
+  ]
+
+  -- what became of the folder's task
+  pub printed_done : {H : Type 0} (folder : H → Folder) (images : H → DiskName → Image → Type 0) (since : H → DiskName → ℕ → Image → Type 0) (number : H → DiskName → ℕ) (old new : H) (words : List (List ℕ))
+      → FolderDone folder images since number words old new (Err fault) → FolderDone folder images since number words old new (Err p.cause)
+  printed_done folder images since number old new words done = elim p.cause_is [
+    | inl same ↦ subst (λ (e : RunFault). FolderDone folder images since number words old new (Err e)) (sym same) done
+    | inr memory ↦ subst (λ (e : RunFault). FolderDone folder images since number words old new (Err e)) (sym memory.0)
+        (refused_done folder images since number old new words (Err fault) (λ is. memory.1 (one_err fault Device is)) done)
   ]

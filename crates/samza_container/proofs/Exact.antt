@@ -1,36 +1,49 @@
 -- A folder is run to its end, or there is a cause why not, and never both.
-use Rattle.std.proofs.Common.{ℕ, ◌≡◌, ◌≢◌, ◌⊎◌, List, drop, length, Option, Some, None, unwrap_or, Result, Ok, Err, inl, inr, refl, sym, subst, ap, ◌∙◌, arith}
-use Rattle.samza_model.specs.declared.messages.Record.{Record}
+use Rattle.std.proofs.Common.{ℕ, ◌≡◌, ◌≢◌, ◌+◌, ◌⊎◌, List, [], ◌∷◌, drop, length, Option, Some, None, unwrap_or, Result, Ok, Err, inl, inr, refl, sym, subst, ap, ◌∙◌, arith}
+use Rattle.std.proofs.lemmas.List.{take-append-drop}
+use Rattle.std.proofs.lemmas.Option.{none-some}
 use Rattle.samza_model.specs.declared.checkpoints.Checkpoint.{Checkpoint}
+use Rattle.samza_model.specs.declared.messages.Ssp.{Ssp}
+use Rattle.samza_model.specs.declared.messages.TaskName.{TaskName}
+use Rattle.samza_model.specs.declared.setups.InputSetup.{InputSetup}
 use Rattle.samza_model.specs.declared.setups.Setup.{Setup}
 use Rattle.samza_model.specs.declared.turns.Failure.{Failure}
-use Rattle.samza_model.specs.Content.{Content, State}
+use Rattle.samza_model.specs.Events.{deliveries_of, low}
 use Rattle.samza_model.specs.Files.{Image}
+use Rattle.samza_model.specs.Histories.{History, whole}
+use Rattle.samza_model.specs.Lawful.{Given, IsLawful, end_at_input, start_at}
+use Rattle.samza_model.specs.Marks.{AreMarks}
 use Rattle.samza_model.specs.Meaning.{Meaning}
-use Rattle.samza_model.specs.Partition.{partition_of}
+use Rattle.samza_model.specs.Partition.{Partition, partition_of}
 use Rattle.samza_model.proofs.Laws.{end_in}
-use Rattle.samza_model.specs.Restored.{next_at, start_of}
+use Rattle.samza_model.specs.Ran.{Finished, HasNoWindows, opening, starts_from}
+use Rattle.samza_model.specs.Restored.{Restores}
+use Rattle.history_laws.specs.Fails.{DoesOneByOne}
+use Rattle.history_laws.proofs.Shared.{failure_or_end, low_idle, one_failure}
 use Rattle.disk_model.specs.Folders.{Folder}
-use Rattle.std.proofs.lemmas.List.{take-append-drop}
 use Rattle.job_config.specs.declared.config.JobConfig.{JobConfig}
 use Rattle.shipped_jobs.specs.Classes.{meaning_of}
 use Rattle.topic_log.proofs.Laws.{log_unique}
 use Rattle.restore_trim.specs.declared.faults.OpenFault.{OpenFault}
-use Rattle.unit_opening.specs.Opens.{Opens}
-use Rattle.unit_opening.specs.Inputs.{input_of}
-use Rattle.unit_opening.specs.Opened.{LogsStay}
-use Rattle.unit_opening.specs.Refused.{WhyNotOpened}
+use Rattle.restore_trim.specs.Refused.{StoresOpen}
 use Rattle.restore_trim.proofs.Shared.{restores_one}
+use Rattle.unit_opening.specs.Opens.{Opens}
+use Rattle.unit_opening.specs.Refused.{WhyNotOpened}
 use Rattle.unit_opening.proofs.Shared.{not_kept_shut, one_cause}
+use Rattle.unit_steps.specs.Growing.{FillFile, HaveGrown}
+use Rattle.run_loop.specs.Messages.{IsOfMessages}
+use Rattle.container_texts.specs.FaultText.{fault_text}
+use Rattle.container_texts.specs.Statuses.{open_status, status_of}
+use Rattle.container_texts.specs.Words.{IsCommand, IsRefusedAt}
 use Rattle.container_texts.specs.declared.faults.RunFault.{RunFault}
 use Rattle.container_texts.specs.declared.faults.RunFault.TheVariants.{Words, NoText, TextLimit, BadEscape, BadKey, NotBuilt, NoPartition, Device, NotOpened, Failed, Limit, NoMemory}
-use Rattle.samza_container.specs.Causes.{IsJobOf, IsReady, IsSetUpBy, Runnable, WhyNotReady, WhyStopped, WhyUnfinished}
-use Rattle.container_texts.specs.Statuses.{open_status, status_of}
+use Rattle.task_runs.specs.Ends.{done_to}
+use Rattle.samza_container.specs.Runnable.{CanOpen, CanRun, given_to}
+use Rattle.task_runs.specs.Runs.{TaskRan, given_of}
+use Rattle.task_runs.proofs.Shared.{windowless_all}
+use Rattle.samza_container.specs.Causes.{DoesOneByOne as DoesOneByOneIn, IsJobOf, IsReady, IsSetUpBy, Runnable, WhyNotReady, WhyStopped, WhyUnfinished}
 use Rattle.samza_container.specs.Configured.{configured, set_up_by, input_disk, task_disk}
-use Rattle.samza_container.specs.Runs.{fresh, CanRun, Does, FailsMessage, FailsMessageFrom, FillsFile, FillsFileFrom, Start}
-use Rattle.container_texts.specs.Words.{IsCommand, IsRefusedAt}
-use Rattle.samza_container.proofs.Advancing.{undone}
-use Rattle.samza_container.proofs.Failing.{has_message, one_failed}
+use Rattle.samza_container.specs.Runs.{FailsMessage, FillsFile}
 
 pub not_words : (words : List (List ℕ)) (place : ℕ) → IsCommand words → IsRefusedAt words place → ⊥
 not_words words place is why =
@@ -66,63 +79,90 @@ one_fault r e e' is is' = let both : ◌≡◌ {A = Result Setup RunFault} (Err 
 not_unready : (f : Folder) (s : Setup) (e : RunFault) → IsSetUpBy f s → status_of e ≢ 4 → status_of e ≢ 8 → WhyNotReady f e → ⊥
 not_unready f s e ready device memory why = not_both (set_up_by f) s e ready (unready_said f e device memory why)
 
-start_opens : (s : Setup) (input : List ℕ) (before : Image) → Start s input before → Opens s before input
-start_opens s input before b = record {
-  mark = b.mark;
-  hold = record { contents = b.stores; restores = b.restored; stores = b.opens };
-  messages = b.messages;
-  has_messages = b.has_messages;
-  within = omega (arith, b.begins, b.within, end_in b.messages);
+can_opens : (job : Meaning) (s : Setup) (input : List ℕ) (before : Image) → CanOpen job s input before → Opens s before input
+can_opens job s input before o = record {
+  mark = o.opened.mark;
+  hold = record { contents = o.opened.stores; restores = o.opened.restores; stores = o.opens };
+  messages = o.messages;
+  has_messages = o.has_messages;
+  within = omega (arith, o.within, end_in o.messages);
 }
 
--- a run of the same files begins in one way
-module _ (s : Setup) (input : List ℕ) (before : Image) (a b : Start s input before) where
-  as_start : (R : Option Checkpoint → List Content → List Record → ℕ → Type 0) → R b.mark b.stores b.messages b.begun → R a.mark a.stores a.messages a.begun
-  as_start R r =
-      let one = restores_one s before b.mark a.mark b.stores a.stores b.restored a.restored in
-      let same : b.messages ≡ a.messages = log_unique input b.messages a.messages b.has_messages a.has_messages in
-      let first : b.begun ≡ a.begun =
-      b.begins
-      ∙ ap (λ (m : Option Checkpoint). start_of (next_at m 0) (input_of s) (partition_of b.messages)) one.0
-      ∙ ap (λ (ms : List Record). start_of (next_at a.mark 0) (input_of s) (partition_of ms)) same
-      ∙ sym a.begins in
-      subst (λ (n : ℕ). R a.mark a.stores a.messages n) first
-      (subst (λ (ms : List Record). R a.mark a.stores ms b.begun) same
-      (subst (λ (c : List Content). R a.mark c b.messages b.begun) one.1
-      (subst (λ (m : Option Checkpoint). R m b.stores b.messages b.begun) one.0 r)))
+-- how a run was opened
+abbrev opening_of : (job : Meaning) (s : Setup) (input : List ℕ) (before after : Image) (t : History) → TaskRan job s input before after t → CanOpen job s input before
+opening_of job s input before after t r = record {
+  messages = r.messages;
+  has_messages = r.has_messages;
+  opened = record { mark = r.ran.opened.mark; stores = r.ran.opened.stores; restores = subst (λ (b : Image). Restores s b r.ran.opened.mark r.ran.opened.stores) r.begins r.ran.opened.restores };
+  opens = subst (λ (b : Image). StoresOpen b r.ran.opened.mark (length s.stores)) r.begins r.opens;
+  within = r.within;
+}
 
-  fails_there : (job : Meaning) (f : Failure) → FailsMessageFrom job s b.messages b.begun b.begun (fresh s b.stores) f → FailsMessageFrom job s a.messages a.begun a.begun (fresh s a.stores) f
-  fails_there job f = as_start (λ mark stores messages begun. FailsMessageFrom job s messages begun begun (fresh s stores) f)
-
--- where the job failed a message, it didn't do all
-failed_not_done : (job : Meaning) (s : Setup) (messages : List Record) (begun from : ℕ) (old left : State) (f : Failure) → FailsMessageFrom job s messages begun from old f → Does job s messages from (length messages) old left → ⊥
-failed_not_done job s messages begun from old left f fails does =
-    undone job s messages from fails.reached old fails.left fails.failed.message fails.does fails.failed.is_next
-    (length messages) (has_message s messages fails.reached fails.failed.message fails.failed.is_next) left f.why fails.failed.ended does
+-- a task is opened in one way
+same_given : (job : Meaning) (s : Setup) (input : List ℕ) (before after : Image) (t : History) (r : TaskRan job s input before after t) (o : CanOpen job s input before)
+    → given_of job s input before after t r ≡ given_to job s input before o
+same_given job s input before after t r o =
+    let a = opening_of job s input before after t r in
+    let one = restores_one s before a.opened.mark o.opened.mark a.opened.stores o.opened.stores a.opened.restores o.opened.restores in
+    let same : r.messages ≡ o.messages = log_unique input r.messages o.messages r.has_messages o.has_messages in
+    λ i. opening job s (partition_of (same i) ∷ []) (one.0 i) (one.1 i)
 
 module _ (job : Meaning) (s : Setup) (input : List ℕ) (before : Image) where
   not_failed : (f : Failure) → CanRun job s input before → FailsMessage job s input before f → ⊥
   not_failed f can fails =
-      let a = can.start in
-      failed_not_done job s a.messages a.begun a.begun (fresh s a.stores) can.left f (fails_there s input before a fails.start job f fails.fails) can.does
+      let r = fails.ran in
+      let t = fails.history in
+      let lawful = subst (λ (k : Given). IsLawful k (whole t)) (same_given job s input before fails.after t r can.can_open) r.ran.lawful in
+      none-some f (sym (can.sound t r.begins r.of_messages lawful) ∙ fails.failed)
 
   not_full : CanRun job s input before → FillsFile job s input before → ⊥
   not_full can fills =
-      let a = can.start in
-      let b = fills.start in
-      can.room fills.logs
-      (as_start s input before a b (λ mark stores messages begun. LogsStay s mark before fills.logs) fills.stay)
-      (as_start s input before a b (λ mark stores messages begun. FillsFileFrom job s fills.logs mark messages begun (fresh s stores)) fills.fills)
+      let r = fills.ran in
+      let t = fills.history in
+      let same = same_given job s input before fills.after t r can.can_open in
+      can.room t r.ran.marks fills.after r.begins r.of_messages (subst (λ (k : Given). IsLawful k (whole t)) same r.ran.lawful) (subst (λ (k : Given). AreMarks k t.parts r.ran.marks) same r.ran.are_marks)
+      (subst (λ (k : Given). HaveGrown k t.before t.parts r.ran.marks fills.after) same fills.grown) (subst (λ (k : Given). FillFile k t r.ran.marks fills.after) same fills.fills)
 
-  fails_or_fills : (f : Failure) → FailsMessage job s input before f → FillsFile job s input before → ⊥
-  fails_or_fills f fails fills =
-      let a = fills.start in
-      failed_not_done job s a.messages a.begun a.begun (fresh s a.stores) fills.fills.left f (fails_there s input before a fails.start job f fails.fails) fills.fills.does
+  -- with one callback at a time a run fails in one way, and none comes to the input's end then
+  module _ (one : length s.inputs ≡ 1) (alone : s.concurrency ≡ 1) (untimed : s.timeout_ms ≡ None) (f : Failure) (fails : FailsMessage job s input before f) where
+    abbrev Part : Partition
+    Part = partition_of fails.ran.messages
 
-  one_failure : (f f' : Failure) → FailsMessage job s input before f → FailsMessage job s input before f' → f ≡ f'
-  one_failure f f' fails fails' =
-      let a = fails.start in
-      one_failed job s a.messages a.begun a.begun (fresh s a.stores) f f' fails.fails (fails_there s input before a fails'.start job f' fails'.fails)
+    abbrev K : Given
+    K = given_of job s input before fails.after fails.history fails.ran
+
+    alone_here : DoesOneByOne job K Part
+    alone_here = record { of_job = refl; input = as_many fails.ran.ran.opened.mark s.inputs one; partition = refl; alone = alone; untimed = untimed }
+      where
+        as_many : (mark : Option Checkpoint) (inputs : List InputSetup) → length inputs ≡ 1 → length (starts_from mark 0 inputs (Part ∷ [])) ≡ 1
+        as_many mark [] is = is
+        as_many mark (i ∷ []) is = refl
+        as_many mark (i ∷ j ∷ is) more = absurd (omega (arith, more))
+
+    no_window : (t : History) → IsOfMessages t → HasNoWindows None (whole t)
+    no_window t of = windowless_all None (whole t) of
+
+    same_failure : (f' : Failure) → FailsMessage job s input before f' → (f.place ≡ f'.place) × (f.why ≡ f'.why)
+    same_failure f' fails' =
+        let r' = fails'.ran in
+        let t = fails.history in
+        let t' = fails'.history in
+        let lawful' = subst (λ (k : Given). IsLawful k (whole t')) (same_given job s input before fails'.after t' r' (opening_of job s input before fails.after t fails.ran)) r'.ran.lawful in
+        let is = one_failure job K Part (whole t) (whole t') f f' alone_here (no_window t fails.ran.of_messages) fails.ran.ran.lawful fails.failed (no_window t' r'.of_messages) lawful' fails'.failed in
+        (is.0, is.1)
+
+    pub ended_or_fails : (after : Image) (t' : History) (r' : TaskRan job s input before after t') → Finished (given_of job s input before after t' r') t' after
+        → done_to (given_of job s input before after t' r') t' ≡ end_at_input (given_of job s input before after t' r') 0 → ⊥
+    ended_or_fails after t' r' finished at_end =
+        let t = fails.history in
+        let k' = given_of job s input before after t' r' in
+        let same = same_given job s input before after t' r' (opening_of job s input before fails.after t fails.ran) in
+        let lawful' = subst (λ (k : Given). IsLawful k (whole t')) same r'.ran.lawful in
+        let low : low k'.setup (start_at k' 0) (whole t') 0 ≡ start_at k' 0 + deliveries_of 0 (whole t') = low_idle k' (whole t') 0 r'.ran.lawful finished.idle finished.sound in
+        let first : start_at k' 0 ≡ start_at K 0 = ap (λ (k : Given). start_at k 0) same in
+        let last : end_at_input k' 0 ≡ end_at_input K 0 = ap (λ (k : Given). end_at_input k 0) same in
+        failure_or_end job K Part (whole t) (whole t') f alone_here (no_window t fails.ran.of_messages) fails.ran.ran.lawful fails.failed (no_window t' r'.of_messages) lawful' finished.idle finished.sound
+        (omega (arith, low, at_end, first, last))
 
 not_shut : (s : Setup) (input : List ℕ) (before : Image) (o : OpenFault) → open_status o ≢ 4 → open_status o ≢ 8 → Opens s before input → WhyNotOpened (Unit {0}) (Unit {0}) s before input o → ⊥
 not_shut s input before o device memory opens why =
@@ -145,7 +185,7 @@ not_unfinished job s input before (BadKey key what) can device memory why = why
 not_unfinished job s input before (NotBuilt key) can device memory why = why
 not_unfinished job s input before NoPartition can device memory why = why
 not_unfinished job s input before Device can device memory why = device refl
-not_unfinished job s input before (NotOpened o) can device memory why = not_shut s input before o device memory (start_opens s input before can.start) why
+not_unfinished job s input before (NotOpened o) can device memory why = not_shut s input before o device memory (can_opens job s input before can.can_open) why
 not_unfinished job s input before (Failed f) can device memory why = not_failed job s input before f can why
 not_unfinished job s input before Limit can device memory why = not_full job s input before can why
 not_unfinished job s input before NoMemory can device memory why = memory refl
@@ -171,19 +211,24 @@ module _ (job : Meaning) (s : Setup) (input : List ℕ) (before : Image) where
   ending Limit device memory why = full refl why
   ending NoMemory device memory why = absurd (memory refl)
 
-  shut_or_begun : (o : OpenFault) → open_status o ≢ 4 → open_status o ≢ 8 → WhyNotOpened (Unit {0}) (Unit {0}) s before input o → Start s input before → ⊥
-  shut_or_begun o device memory why b = not_shut s input before o device memory (start_opens s input before b) why
+  shut_or_run : (o : OpenFault) → open_status o ≢ 4 → open_status o ≢ 8 → WhyNotOpened (Unit {0}) (Unit {0}) s before input o → (after : Image) (t : History) → TaskRan job s input before after t → ⊥
+  shut_or_run o device memory why after t r = not_shut s input before o device memory (can_opens job s input before (opening_of job s input before after t r)) why
 
-  one_ending : (a b : RunFault) → Ending job s input before a → Ending job s input before b → a ≡ b
-  one_ending a b (shut o device memory is why) (shut o' device' memory' is' why') = is ∙ ap NotOpened (one_shut s input before o o' device memory device' memory' why why') ∙ sym is'
-  one_ending a b (shut o device memory is why) (failing f is' fails) = absurd (shut_or_begun o device memory why fails.start)
-  one_ending a b (shut o device memory is why) (full is' fills) = absurd (shut_or_begun o device memory why fills.start)
-  one_ending a b (failing f is fails) (shut o device memory is' why) = absurd (shut_or_begun o device memory why fails.start)
-  one_ending a b (failing f is fails) (failing f' is' fails') = is ∙ ap Failed (one_failure job s input before f f' fails fails') ∙ sym is'
-  one_ending a b (failing f is fails) (full is' fills) = absurd (fails_or_fills job s input before f fails fills)
-  one_ending a b (full is fills) (shut o device memory is' why) = absurd (shut_or_begun o device memory why fills.start)
-  one_ending a b (full is fills) (failing f is' fails) = absurd (fails_or_fills job s input before f fails fills)
-  one_ending a b (full is fills) (full is' fills') = is ∙ sym is'
+  -- and with one callback at a time it has one line, but for a file that grows too large
+  module _ (one : length s.inputs ≡ 1) (alone : s.concurrency ≡ 1) (untimed : s.timeout_ms ≡ None) (task : TaskName) (inputs : List Ssp) where
+    same_text : (f f' : Failure) → (f.place ≡ f'.place) × (f.why ≡ f'.why) → fault_text task inputs (Failed f) ≡ fault_text task inputs (Failed f')
+    same_text f f' same = λ i. fault_text task inputs (Failed (record { turn = f.turn; place = same.0 i; why = same.1 i }))
+
+    one_ending : (a b : RunFault) → a ≢ Limit → b ≢ Limit → Ending job s input before a → Ending job s input before b → fault_text task inputs a ≡ fault_text task inputs b
+    one_ending a b small small' (shut o device memory is why) (shut o' device' memory' is' why') =
+        ap (fault_text task inputs) (is ∙ ap NotOpened (one_shut s input before o o' device memory device' memory' why why') ∙ sym is')
+    one_ending a b small small' (shut o device memory is why) (failing f is' fails) = absurd (shut_or_run o device memory why fails.after fails.history fails.ran)
+    one_ending a b small small' (failing f is fails) (shut o device memory is' why) = absurd (shut_or_run o device memory why fails.after fails.history fails.ran)
+    one_ending a b small small' (failing f is fails) (failing f' is' fails') =
+        ap (fault_text task inputs) is ∙ same_text f f' (same_failure job s input before one alone untimed f fails f' fails') ∙ sym (ap (fault_text task inputs) is')
+    one_ending a b small small' (full is fills) end = absurd (small is)
+    one_ending a b small small' (shut o device memory is why) (full is' fills) = absurd (small' is')
+    one_ending a b small small' (failing f is fails) (full is' fills) = absurd (small' is')
 
 -- why a folder whose words are a command isn't run to its end
 WhyPastWords : Folder → RunFault → Type 0
@@ -224,21 +269,23 @@ same_task f e job job' s t same is why =
 ready_one : (f : Folder) (e : RunFault) (job job' : Meaning) (s t : Setup) → IsReady f job s → IsReady f job' t → WhyUnfinished job s (f.disks (input_disk s) 0) (f.disks task_disk) e → WhyUnfinished job' t (f.disks (input_disk t) 0) (f.disks task_disk) e
 ready_one f e job job' s t a b = same_task f e job job' s t (one_job f job job' a.job_is b.job_is) (one_setup (set_up_by f) s t a.set_up b.set_up)
 
-module _ (f : Folder) (e e' : RunFault) (device : status_of e ≢ 4) (memory : status_of e ≢ 8) (device' : status_of e' ≢ 4) (memory' : status_of e' ≢ 8) where
-  one_past_words : WhyPastWords f e → WhyPastWords f e' → e ≡ e'
+module _ (f : Folder) (alone : DoesOneByOneIn f) (e e' : RunFault) (device : status_of e ≢ 4) (memory : status_of e ≢ 8) (device' : status_of e' ≢ 4) (memory' : status_of e' ≢ 8) (small : e ≢ Limit) (small' : e' ≢ Limit)
+    (task : TaskName) (inputs : List Ssp) where
+  one_past_words : WhyPastWords f e → WhyPastWords f e' → fault_text task inputs e ≡ fault_text task inputs e'
   unfolding WhyPastWords
-  one_past_words (inl why) (inl why') = one_fault (set_up_by f) e e' (unready_said f e device memory why) (unready_said f e' device' memory' why')
+  one_past_words (inl why) (inl why') = ap (fault_text task inputs) (one_fault (set_up_by f) e e' (unready_said f e device memory why) (unready_said f e' device' memory' why'))
   one_past_words (inl why) (inr why') = absurd (not_unready f why'.1 e why'.2.set_up device memory why)
   one_past_words (inr why) (inl why') = absurd (not_unready f why.1 e' why.2.set_up device' memory' why')
   one_past_words (inr why) (inr why') =
       let job = why.0 in
       let s = why.1 in
-      one_ending job s (f.disks (input_disk s) 0) (f.disks task_disk) e e'
+      let one = alone s why.2.set_up in
+      one_ending job s (f.disks (input_disk s) 0) (f.disks task_disk) one.0 one.1 one.2 task inputs e e' small small'
       (ending job s (f.disks (input_disk s) 0) (f.disks task_disk) e device memory why.3)
       (ending job s (f.disks (input_disk s) 0) (f.disks task_disk) e' device' memory' (ready_one f e' why'.0 job why'.1 s why'.2 why.2 why'.3))
 
-  -- a folder has one cause
-  pub one_stop : (words : List (List ℕ)) → IsCommand words → WhyStopped words f e → WhyStopped words f e' → e ≡ e'
+  -- a folder stops with one line
+  pub one_stop : (words : List (List ℕ)) → IsCommand words → WhyStopped words f e → WhyStopped words f e' → fault_text task inputs e ≡ fault_text task inputs e'
   one_stop words is why why' = one_past_words (past_words words f e is why) (past_words words f e' is why')
 
 -- a folder that can be run to its end has no cause to stop

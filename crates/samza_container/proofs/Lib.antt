@@ -1,13 +1,8 @@
-mod Advancing
+mod Done
 mod Ending
 mod Exact
-mod Failing
 mod Leaving
 mod Naming
-mod Passing
 mod Ready
-mod Reporting
 pub mod Spelling
-mod Timely
 mod Told
-mod Working

@@ -1,5 +1,5 @@
 -- Why a command stops before there is a task, and for its task's cause; and what that tells on every outside.
-use Rattle.std.proofs.Common.{List, ℕ, inl, inr}
+use Rattle.std.proofs.Common.{List, ℕ, Err, inl, inr}
 use Rattle.samza_model.specs.declared.messages.Ssp.{Ssp}
 use Rattle.samza_model.specs.declared.messages.TaskName.{TaskName}
 use Rattle.samza_model.specs.declared.setups.Setup.{Setup}
@@ -8,9 +8,11 @@ use Rattle.samza_model.specs.Meaning.{Meaning}
 use Rattle.unit_logs.specs.Standing.{IsSetUp}
 use Rattle.container_texts.specs.declared.faults.RunFault.{RunFault}
 use Rattle.container_texts.specs.declared.faults.RunFault.TheVariants.{Words, NoText, TextLimit, BadEscape, BadKey, NotBuilt, NoPartition, Device, NotOpened, Failed, Limit, NoMemory}
-use Rattle.samza_container.specs.Causes.{IsOfFolder, IsReady, IsSetUpBy, NamesTask, TellsOf, WhyNotReady, WhyStopped, WhyUnfinished}
+use Rattle.task_runs.specs.Tells.{TellsOf}
+use Rattle.samza_container.specs.Causes.{IsOfFolder, IsReady, IsSetUpBy, NamesTask, WhyNotReady, WhyStopped, WhyUnfinished}
 use Rattle.samza_container.specs.Configured.{input_disk, task_disk}
-use Rattle.samza_container.specs.Reported.{IsCause, IsNamedIn, IsOf, Told}
+use Rattle.samza_container.specs.Done.{WhyNoTask}
+use Rattle.samza_container.specs.Naming.{IsCause, IsNamedIn, IsOf, Told}
 
 told_none : (words : List (List ℕ)) (task : TaskName) (inputs : List Ssp) (e : RunFault) → IsOfFolder e → Told words task inputs e
 told_none words task inputs (Words place) of = absurd of
@@ -53,6 +55,21 @@ unready words f (NotOpened o) of why = inl why
 unready words f (Failed f') of why = inl why
 unready words f Limit of why = inl why
 unready words f NoMemory of why = inl why
+
+-- the folder came to no task
+pub no_task : (words : List (List ℕ)) (f : Folder) (e : RunFault) → IsOfFolder e → WhyNotReady f e → WhyNoTask words f (Err e)
+no_task words f (Words place) of why = absurd of
+no_task words f NoText of why = why
+no_task words f TextLimit of why = why
+no_task words f (BadEscape line) of why = why
+no_task words f (BadKey key what) of why = why
+no_task words f (NotBuilt key) of why = why
+no_task words f NoPartition of why = why
+no_task words f Device of why = tt
+no_task words f (NotOpened o) of why = why
+no_task words f (Failed f') of why = why
+no_task words f Limit of why = why
+no_task words f NoMemory of why = tt
 
 -- the folder isn't ready
 pub of_folder : (tells : Type 0) (words : List (List ℕ)) (f : Folder) (task : TaskName) (inputs : List Ssp) (e : RunFault) → IsOfFolder e → (tells → WhyNotReady f e) → IsCause tells words f task inputs e

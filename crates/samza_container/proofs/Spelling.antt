@@ -1,7 +1,8 @@
 -- A configuration of which all is built sets up a task that is opened.
-use Rattle.std.proofs.Common.{ℕ, ◌≡◌, ◌<◌, ◌≤◌, Bool, true, false, cond, nat_lt, List, [], ◌∷◌, length, map, Option, Some, None, Result, Ok, Err, IfOk, Ordering, sym, subst, ap, ◌∙◌, refl, arith}
+use Rattle.std.proofs.Common.{ℕ, ◌≡◌, ◌≢◌, ◌<◌, ◌≤◌, ◌^◌, Bool, true, false, is_some, true≢false, codes, cond, nat_lt, List, [], ◌∷◌, length, map, Option, Some, None, Result, Ok, Err, IfOk, Ordering, sym, subst, ap, ◌∙◌, refl, arith}
 use Rattle.std.proofs.lemmas.Bool.Decides.{nat_tests}
 use Rattle.std.proofs.lemmas.List.{length-map}
+use Rattle.std.proofs.lemmas.Option.{same_Some}
 use Rattle.std.specs.List.{AllByRecursion}
 use Rattle.std.specs.List.Sorted.{IsStrictlySortedBy}
 use Rattle.std.specs.Ordering.{nat_cmp, is_lt, ordering_then}
@@ -15,9 +16,10 @@ use Rattle.samza_model.specs.Names.{is_topic, is_system}
 use Rattle.samza_model.specs.Restored.{IsNamed, marked_place, setup_place}
 use Rattle.job_config.specs.declared.config.InputConfig.{InputConfig}
 use Rattle.job_config.specs.declared.config.JobConfig.{JobConfig}
-use Rattle.job_config.specs.Bounds.{AreRising, IsBounded, IsStore, input_name, store_name}
+use Rattle.job_config.specs.Bounds.{AreRising, IsBounded, IsInterval, IsStore, input_name, store_name}
+use Rattle.core_steps.specs.Setups.{IsRunnable}
 use Rattle.unit_logs.specs.Standing.{IsSetUp}
-use Rattle.samza_container.specs.NotBuilt.{first_not_built}
+use Rattle.samza_container.specs.NotBuilt.{first_not_built, is_other_job}
 use Rattle.samza_container.specs.SetUp.{input_setup, setup_of}
 
 abbrev IsTopic : List ℕ → Type 0
@@ -130,6 +132,47 @@ set_up c bounded built = record {
   committable = record { spelled = named_well c bounded; batches = batched c.stores bounded.stores.each };
 }
 
-pub if_set_up : {E : Type 0} (made : Result Setup E) (c : JobConfig) → IsBounded c → first_not_built c ≡ None → IfOk made (λ s. s ≡ setup_of c) → IfOk made IsSetUp
-if_set_up (Ok s) c bounded built is = subst IsSetUp (sym is) (set_up c bounded built)
-if_set_up (Err e) c bounded built is = tt
+-- such a configuration has no interval of windows
+windowless : (c : JobConfig) → first_not_built c ≡ None → c.window_ms ≡ None
+unfolding first_not_built
+windowless c none =
+    let past_class = unheld (is_other_job c.class) (codes "task.class") _ none in
+    let past_inputs = unheld (nat_lt 1 (length c.inputs)) (codes "task.inputs") _ past_class.1 in
+    let past_containers = unheld (nat_lt 1 c.containers) (codes "job.container.count") _ past_inputs.1 in
+    let past_workers = unheld (nat_lt 0 c.workers) (codes "job.container.thread.pool.size") _ past_containers.1 in
+    let window = unheld (is_some c.window_ms) (codes "task.window.ms") _ past_workers.1 in
+    none_there c.window_ms window.0
+  where
+    none_there : (o : Option ℕ) → is_some o ≡ false → o ≡ None
+    none_there None is = refl
+    none_there (Some x) is = absurd (true≢false is)
+
+never_zero : (t : Option ℕ) → IsInterval t → t ≢ Some 0
+never_zero None bound is = absurd cc
+never_zero (Some n) bound is = by n bound (same_Some n 0 is)
+  where
+    by : (n : ℕ) → (1 ≤ n) × (n < 2 ^ 63) → n ≡ 0 → ⊥
+    by n bound is = omega (arith, bound.0, is)
+
+pub runnable : (c : JobConfig) → IsBounded c → first_not_built c ≡ None → IsRunnable (setup_of c)
+runnable c bounded built = record {
+  committable = (set_up c bounded built).committable;
+  concurrency = bounded.concurrency.0;
+  span = omega arith;
+  commits = never_zero c.commit_ms bounded.commit;
+  windows = never_zero c.window_ms bounded.window;
+}
+
+module _ {E : Type 0} (made : Result Setup E) (c : JobConfig) (bounded : IsBounded c) (built : first_not_built c ≡ None) where
+  if_made : (r : Result Setup E) (P : Setup → Type 0) → P (setup_of c) → IfOk r (λ s. s ≡ setup_of c) → IfOk r P
+  if_made (Ok s) P p is = subst P (sym is) p
+  if_made (Err e) P p is = tt
+
+  pub if_set_up : IfOk made (λ s. s ≡ setup_of c) → IfOk made IsSetUp
+  if_set_up = if_made made IsSetUp (set_up c bounded built)
+
+  pub if_runnable : IfOk made (λ s. s ≡ setup_of c) → IfOk made IsRunnable
+  if_runnable = if_made made IsRunnable (runnable c bounded built)
+
+  pub if_windowless : IfOk made (λ s. s ≡ setup_of c) → IfOk made (λ s. s.window_ms ≡ None)
+  if_windowless = if_made made (λ s. s.window_ms ≡ None) (windowless c built)

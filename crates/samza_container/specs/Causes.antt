@@ -1,11 +1,6 @@
 -- Why a run ends otherwise than well: the first cause in the order of work.
-use Rattle.std.specs.Prelude.{ℕ, ◌≡◌, ◌≢◌, ◌<◌, ◌⊎◌, List, Option, Some, Result, Ok, Err, codes}
-use Rattle.samza_model.specs.declared.messages.Record.{Record}
-use Rattle.samza_model.specs.declared.checkpoints.Checkpoint.{Checkpoint}
-use Rattle.samza_model.specs.declared.turns.Why.{Why}
-use Rattle.samza_model.specs.declared.turns.Why.TheVariants.{Expired}
+use Rattle.std.specs.Prelude.{ℕ, ◌≡◌, ◌≢◌, ◌<◌, ◌⊎◌, List, length, Some, None, Result, Ok, Err, codes}
 use Rattle.disk_model.specs.Folders.{Folder}
-use Rattle.samza_model.specs.Content.{State}
 use Rattle.samza_model.specs.Files.{Image}
 use Rattle.samza_model.specs.Meaning.{Meaning}
 use Rattle.samza_model.specs.declared.setups.Setup.{Setup}
@@ -13,11 +8,12 @@ use Rattle.disk_model.specs.declared.hosts.HostFault.{HostFault}
 use Rattle.disk_model.specs.declared.hosts.HostFault.TheVariants.{Device as HostDevice, NoMemory as HostNoMemory}
 use Rattle.job_config.specs.declared.config.JobConfig.{JobConfig}
 use Rattle.shipped_jobs.specs.Classes.{meaning_of}
-use Rattle.unit_opening.specs.Refused.{TellsTask, WhyNotOpened}
+use Rattle.unit_opening.specs.Refused.{WhyNotOpened}
 use Rattle.container_texts.specs.declared.faults.RunFault.{RunFault}
 use Rattle.container_texts.specs.declared.faults.RunFault.TheVariants.{Words, NoText, TextLimit, BadEscape, BadKey, NotBuilt, NoPartition, Device, NotOpened, Failed, Limit, NoMemory}
 use Rattle.samza_container.specs.Configured.{configured, set_up_by, task_disk, input_disk}
-use Rattle.samza_container.specs.Runs.{CanRun, FailsMessage, FailsMessageFrom, FillsFile, FillsFileFrom}
+use Rattle.samza_container.specs.Runnable.{CanRun}
+use Rattle.samza_container.specs.Runs.{FailsMessage, FillsFile}
 use Rattle.container_texts.specs.Statuses.{status_of}
 use Rattle.container_texts.specs.Words.{IsRefusedAt}
 
@@ -33,20 +29,6 @@ IsOfFolder (NotOpened e) = ⊥
 IsOfFolder (Failed f) = ⊥
 IsOfFolder Limit = ⊥
 IsOfFolder e = Unit {0}
-
--- the time of a turn ran out, which no run does yet
-abbrev pub IsInTime : Why → Type 0
-IsInTime (Expired delivered now) = ⊥
-IsInTime why = Unit {0}
-
--- a fault of a task with this setup, once its disk and its input are at hand; and what of it holds on every outside
-abbrev pub TellsOf : Setup → RunFault → Type 0
-TellsOf s Device = Unit {0}
-TellsOf s (NotOpened e) = TellsTask s e
-TellsOf s (Failed f) = ((offset : ℕ) × (f.place ≡ Some (0, offset))) × IsInTime f.why
-TellsOf s Limit = Unit {0}
-TellsOf s NoMemory = Unit {0}
-TellsOf s e = ⊥
 
 -- a folder's task is set up so
 abbrev pub IsSetUpBy : Folder → Setup → Type 0
@@ -75,15 +57,7 @@ WhyNotReady f Device = Unit {0}
 WhyNotReady f NoMemory = Unit {0}
 WhyNotReady f e = set_up_by f ≡ Err e
 
--- from this state on, a unit's messages aren't all done and committed
-abbrev pub WhyNotFinished : Type 0 → Meaning → Setup → Image → Option Checkpoint → List Record → ℕ → ℕ → State → RunFault → Type 0
-WhyNotFinished tells job s logs mark messages begun next state Device = Unit {0}
-WhyNotFinished tells job s logs mark messages begun next state (Failed f) = FailsMessageFrom job s messages begun next state f
-WhyNotFinished tells job s logs mark messages begun next state Limit = tells → FillsFileFrom job s logs mark messages next state
-WhyNotFinished tells job s logs mark messages begun next state NoMemory = Unit {0}
-WhyNotFinished tells job s logs mark messages begun next state e = ⊥
-
--- a task isn't run to its end: it isn't opened, the job fails one of its messages, or a file would grow too large
+-- a task isn't run to its end: it isn't opened, one of its messages fails, or a file would grow too large
 abbrev pub WhyUnfinished : Meaning → Setup → List ℕ → Image → RunFault → Type 0
 WhyUnfinished job s input before (Words place) = ⊥
 WhyUnfinished job s input before NoText = ⊥
@@ -101,6 +75,10 @@ WhyUnfinished job s input before NoMemory = Unit {0}
 -- a folder can be run to its task's input's end
 abbrev pub Runnable : Folder → Type 0
 Runnable f = (job : Meaning) × (s : Setup) × IsReady f job s × CanRun job s (f.disks (input_disk s) 0) (f.disks task_disk)
+
+-- its task has one input, of which one message is in flight at a time, with no time limit
+abbrev pub DoesOneByOne : Folder → Type 0
+DoesOneByOne f = (s : Setup) → IsSetUpBy f s → (length s.inputs ≡ 1) × (s.concurrency ≡ 1) × (s.timeout_ms ≡ None)
 
 -- why a folder isn't run to its end
 abbrev pub WhyStopped : List (List ℕ) → Folder → RunFault → Type 0

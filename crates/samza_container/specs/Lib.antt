@@ -1,10 +1,12 @@
 pub mod Causes
 pub mod ConfigText
 pub mod Configured
+pub mod Done
 pub mod Endings
 pub mod Leaves
+pub mod Naming
 pub mod NotBuilt
-pub mod Reported
+pub mod Runnable
 pub mod Runs
 pub mod SetUp
 pub mod Stops

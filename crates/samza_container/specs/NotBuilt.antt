@@ -36,7 +36,6 @@ rows c =
     ∷ (nat_lt 1 (length c.inputs), codes "task.inputs")
     ∷ (nat_lt 1 c.containers, codes "job.container.count")
     ∷ (nat_lt 0 c.workers, codes "job.container.thread.pool.size")
-    ∷ (nat_lt 1 c.concurrency, codes "task.max.concurrency")
     ∷ (is_some c.window_ms, codes "task.window.ms")
     ∷ (c.async_commit, codes "task.async.commit")
     ∷ input_rows c.inputs

@@ -7,7 +7,6 @@ mod hosting;
 mod laws;
 mod not_built;
 mod preparing;
-mod running;
 mod setups;
 mod top;
 
@@ -15,6 +14,6 @@ pub use container_texts::{
     InputReport, OutputReport, RunFault, StoreReport, TaskReport, fault_line, report,
 };
 pub use laws::{
-    built_configurations_set_up, runs_or_says_why, stops_with_one_cause, what_ran_can_be_run,
+    built_configurations_set_up, ended_runs_never_fail, runs_or_says_why, stops_with_one_line,
 };
 pub use top::samza_main;

@@ -52,8 +52,6 @@ fn first_of_job(config: &JobConfig) -> Option<&'static [u8]>
         Some(b"job.container.count")
     } else if config.workers > 0 {
         Some(b"job.container.thread.pool.size")
-    } else if config.concurrency > 1 {
-        Some(b"task.max.concurrency")
     } else if config.window_ms.is_some() {
         Some(b"task.window.ms")
     } else if config.async_commit {

@@ -4,6 +4,7 @@ ghost use Rattle.samza_model.specs.Counters.{Rose};
 ghost use Rattle.disk_model.specs.Handles.{AsMany, SameAt};
 ghost use Rattle.disk_model.specs.declared.names.DiskName.{DiskName as DiskNameValue};
 ghost use Rattle.job_config.specs.Bounds.{IsBounded};
+ghost use Rattle.core_steps.specs.Setups.{IsRunnable};
 ghost use Rattle.unit_logs.specs.Standing.{IsSetUp};
 ghost use Rattle.samza_container.specs.Causes.{ends_with, HasEntered, IsOfFolder, IsReady, WhyNotOne, WhyNotReady};
 ghost use Rattle.container_texts.specs.Statuses.{status_of};
@@ -85,6 +86,8 @@ fn check_partitions<H: Host>(alloc: Global, setup: &Setup, host: &mut H) -> Resu
 /// The setup of the folder's task, if the folder can be run.
 pub(crate) fn prepare<H: Host>(alloc: Global, folder: &str, host: &mut H) -> Result<Setup, RunFault>
     ensures set_up { IfOk result IsSetUp }
+    ensures runnable { IfOk result IsRunnable }
+    ensures windowless { IfOk result (λ s. s.window_ms ≡ None) }
     ensures ready { IfOk result (λ s. H.tells → IsReady (H.folder host.old) word_count s) }
     ensures why { IfErr result (λ e. H.tells → WhyNotReady (H.folder host.old) e) }
     ensures of_folder { IfErr result IsOfFolder }

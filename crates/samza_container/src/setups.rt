@@ -1,6 +1,7 @@
 // What a configuration sets up.
 ghost use Rattle.std.specs.Prelude.{◌≡◌, None, IfOk, map};
 ghost use Rattle.job_config.specs.Bounds.{IsBounded};
+ghost use Rattle.core_steps.specs.Setups.{IsRunnable};
 ghost use Rattle.unit_logs.specs.Standing.{IsSetUp};
 ghost use Rattle.unit_opening.specs.Inputs.{input_of};
 ghost use Rattle.samza_container.specs.Configured.{input_disk};
@@ -61,12 +62,14 @@ fn task_setup(alloc: Global, config: &JobConfig) -> Result<Setup, NoMemory>
     })
 }
 
-/// The setup of the one task of one container, for a configuration of which all is built. A unit is opened for it.
+/// The setup of the one task of one container, for a configuration of which all is built. A unit is opened for it and run.
 pub(crate) fn setup_of(alloc: Global, config: &JobConfig) -> Result<Setup, NoMemory>
     requires bounded { IsBounded config.now }
     requires built { first_not_built config.now ≡ None }
     ensures setup { IfOk result (λ s. s ≡ setup_of config.now) }
     ensures set_up { IfOk result IsSetUp }
+    ensures runnable { IfOk result IsRunnable }
+    ensures windowless { IfOk result (λ s. s.window_ms ≡ None) }
 {
     task_setup(alloc, config)
 }

@@ -1,7 +1,7 @@
 //! The container's program: the top call over the machine's own words, folders and streams.
 #![tactic(auto)]
 
-use edge_io::StdSink;
+use edge_io::{First, StdSink};
 use file_host::FileHost;
 use samza_container::samza_main;
 use std::env;
@@ -31,7 +31,7 @@ fn run(rt: &HostRuntime, words: &[String]) -> Result<u8> {
     let mut host = FileHost::new(rt.clone()?);
     let mut out = StdSink::new(rt.stdout());
     let mut err = StdSink::new(rt.stderr());
-    let status = samza_main(rt.alloc(), words, &mut host, &mut out, &mut err);
+    let status = samza_main(rt.alloc(), words, &mut host, &mut First, &mut out, &mut err);
     if let Some(cause) = host.cause() {
         if wants_cause(rt) {
             let _ = eprintln!(rt; "cause: {cause}");

@@ -1,71 +1,51 @@
-use Rattle.std.proofs.Common.{[], inl, inr, refl, subst, sym, ◌∙◌}
+use Rattle.std.proofs.Common.{[], Ok, inl, inr, refl, ◌∙◌}
 use Rattle.std.proofs.lemmas.Bool.{cases_eq}
 use Rattle.std.specs.Prelude.{map, string_bytes}
-use Rattle.container_texts.specs.Statuses.{status_of}
-use Rattle.samza_container.specs.Configured.{task_disk}
-use Rattle.samza_container.specs.Leaves.{FolderLeaves, MayCommit}
 use Rattle.container_texts.specs.declared.faults.RunFault.TheVariants.{NoMemory}
-use Rattle.samza_container.proofs.Ending.{leaves_as, may_eight, may_seven, printed_as, printed_cause, printed_may}
+use Rattle.samza_container.proofs.Done.{ok_refused}
+use Rattle.samza_container.proofs.Ending.{printed_as, printed_cause, printed_done}
 use Rattle.samza_container.proofs.Exact.{not_stopped}
-use Rattle.samza_container.proofs.Leaving.{leaves_more}
 use Rattle.samza_container.proofs.Naming.{no_memory}
 use Rattle.samza_container.proofs.top.samza_main.Goals as goal
 
-pub returns-in-Ok-clause-any_moment : goal.returns-in-Ok-clause-any_moment
-returns-in-Ok-clause-any_moment g c = λ told.
-    let h = g.H.Host in
-    let f = h.folder c.args.host.now in
-    let result = c.put_report.result in
-    let may : MayCommit 0 → MayCommit result = λ zero. elim c.put_report.ensures.one_of [
-      | inl is ↦ subst MayCommit (sym is) zero
-      | inr (inl is) ↦ subst MayCommit (sym is) may_seven
-      | inr (inr is) ↦ subst MayCommit (sym is) may_eight
-    ] in
-    leaves_more h.folder h.images h.images_since h.call_number c.args.host.now c.run.new.host task_disk (FolderLeaves f 0) (FolderLeaves f result) (leaves_as f 0 result may) (c.in-Ok.ensures.any_moment told)
-
-pub returns-in-Err-clause-any_moment : goal.returns-in-Err-clause-any_moment
-returns-in-Err-clause-any_moment g c = λ told.
-    let h = g.H.Host in
-    let f = h.folder c.args.host.now in
-    let s = c.in-Err.stopped in
-    let result = c.put_fault.result in
-    let status = status_of s.fault in
-    leaves_more h.folder h.images h.images_since h.call_number c.args.host.now c.run.new.host task_disk (FolderLeaves f status) (FolderLeaves f result)
-    (leaves_as f status result (printed_may g.E.Sink.tells (g.E.Sink.received c.args.err.now) (g.E.Sink.received c.put_fault.new.err) s.task s.inputs.items s.fault result c.put_fault.ensures.printed))
-    (c.in-Err.ensures.any_moment told)
-
 pub returns-in-Ok-clause-well : goal.returns-in-Ok-clause-well
-returns-in-Ok-clause-well g c = λ zero. record { report = c.in-Ok.report; ran = c.in-Ok.ensures.ran; printed = (c.put_report.ensures.whole zero).0 }
+returns-in-Ok-clause-well g c = λ zero. record { report = c.in-Ok.report; done = c.in-Ok.ensures.done; printed = (c.put_report.ensures.whole zero).0 }
 
 pub returns-in-Ok-clause-stopped : goal.returns-in-Ok-clause-stopped
-returns-in-Ok-clause-stopped g c = λ zero seven. elim c.put_report.ensures.one_of [
-  | inl is ↦ absurd (zero is)
-  | inr (inl is) ↦ absurd (seven is)
-  | inr (inr is) ↦ record {
-    cause = NoMemory;
-    task = record { 0 = 0 };
-    inputs = [];
-    status_is = is;
-    is = no_memory g.H.Host.tells (map string_bytes c.args.words.now) (g.H.Host.folder c.args.host.now) (record { 0 = 0 }) [];
-    printed = (c.put_report.ensures.none is).1;
-  }
-]
+returns-in-Ok-clause-stopped g c = λ zero seven.
+    let h = g.H.Host in
+    elim c.put_report.ensures.one_of [
+      | inl is ↦ absurd (zero is)
+      | inr (inl is) ↦ absurd (seven is)
+      | inr (inr is) ↦ record {
+        cause = NoMemory;
+        task = record { 0 = 0 };
+        inputs = [];
+        status_is = is;
+        is = no_memory h.tells (map string_bytes c.args.words.now) (h.folder c.args.host.now) (record { 0 = 0 }) [];
+        done = λ told. ok_refused h.folder h.images h.images_since h.call_number c.args.host.now c.run.new.host (map string_bytes c.args.words.now) c.in-Ok.report (c.in-Ok.ensures.done told);
+        printed = (c.put_report.ensures.none is).1;
+      }
+    ]
 
 pub returns-in-Ok-clause-unheard : goal.returns-in-Ok-clause-unheard
-returns-in-Ok-clause-unheard g c = λ seven. elim (c.put_report.ensures.cut seven) [
-  | inl p ↦ inl (record { report = c.in-Ok.report; ran = c.in-Ok.ensures.ran; part = p.1; rose = p.0 }, p.2)
-  | inr p ↦ inr (
-    p.1,
-    record {
-      cause = NoMemory;
-      task = record { 0 = 0 };
-      inputs = [];
-      is = no_memory g.H.Host.tells (map string_bytes c.args.words.now) (g.H.Host.folder c.args.host.now) (record { 0 = 0 }) [];
-      part = p.2;
-      rose = p.0;
-    },
-  )
-]
+returns-in-Ok-clause-unheard g c = λ seven.
+    let h = g.H.Host in
+    elim (c.put_report.ensures.cut seven) [
+      | inl p ↦ inl (record { report = c.in-Ok.report; done = c.in-Ok.ensures.done; part = p.1; rose = p.0 }, p.2)
+      | inr p ↦ inr (
+        p.1,
+        record {
+          cause = NoMemory;
+          task = record { 0 = 0 };
+          inputs = [];
+          is = no_memory h.tells (map string_bytes c.args.words.now) (h.folder c.args.host.now) (record { 0 = 0 }) [];
+          done = λ told. ok_refused h.folder h.images h.images_since h.call_number c.args.host.now c.run.new.host (map string_bytes c.args.words.now) c.in-Ok.report (c.in-Ok.ensures.done told);
+          part = p.2;
+          rose = p.0;
+        },
+      )
+    ]
 
 pub returns-in-Ok-clause-complete : goal.returns-in-Ok-clause-complete
 returns-in-Ok-clause-complete g c = λ told is can steady. elim c.put_report.ensures.one_of [
@@ -76,30 +56,38 @@ returns-in-Ok-clause-complete g c = λ told is can steady. elim c.put_report.ens
 
 pub returns-in-Err-clause-stopped : goal.returns-in-Err-clause-stopped
 returns-in-Err-clause-stopped g c = λ zero seven.
+    let h = g.H.Host in
     let s = c.in-Err.stopped in
     let p = c.put_fault.ensures.printed in
     let result = c.put_fault.result in
+    let words = map string_bytes c.args.words.now in
+    let sink = g.E.Sink in
     record {
       cause = p.cause;
       task = s.task;
       inputs = s.inputs.items;
       status_is = p.status_is seven;
-      is = printed_cause g.E.Sink.tells (g.E.Sink.received c.args.err.now) (g.E.Sink.received c.put_fault.new.err) s.task s.inputs.items s.fault result p g.H.Host.tells (map string_bytes c.args.words.now) (g.H.Host.folder c.args.host.now) c.in-Err.ensures.cause;
+      is = printed_cause sink.tells (sink.received c.args.err.now) (sink.received c.put_fault.new.err) s.task s.inputs.items s.fault result p h.tells words (h.folder c.args.host.now) c.in-Err.ensures.cause;
+      done = λ told. printed_done sink.tells (sink.received c.args.err.now) (sink.received c.put_fault.new.err) s.task s.inputs.items s.fault result p h.folder h.images h.images_since h.call_number c.args.host.now c.run.new.host words (c.in-Err.ensures.done told);
       printed = p.whole seven;
     }
 
 pub returns-in-Err-clause-unheard : goal.returns-in-Err-clause-unheard
 returns-in-Err-clause-unheard g c = λ seven.
+    let h = g.H.Host in
     let s = c.in-Err.stopped in
     let p = c.put_fault.ensures.printed in
     let result = c.put_fault.result in
+    let words = map string_bytes c.args.words.now in
+    let sink = g.E.Sink in
     inr (
       refl,
       record {
         cause = p.cause;
         task = s.task;
         inputs = s.inputs.items;
-        is = printed_cause g.E.Sink.tells (g.E.Sink.received c.args.err.now) (g.E.Sink.received c.put_fault.new.err) s.task s.inputs.items s.fault result p g.H.Host.tells (map string_bytes c.args.words.now) (g.H.Host.folder c.args.host.now) c.in-Err.ensures.cause;
+        is = printed_cause sink.tells (sink.received c.args.err.now) (sink.received c.put_fault.new.err) s.task s.inputs.items s.fault result p h.tells words (h.folder c.args.host.now) c.in-Err.ensures.cause;
+        done = λ told. printed_done sink.tells (sink.received c.args.err.now) (sink.received c.put_fault.new.err) s.task s.inputs.items s.fault result p h.folder h.images h.images_since h.call_number c.args.host.now c.run.new.host words (c.in-Err.ensures.done told);
         part = p.part;
         rose = c.put_fault.ensures.failed seven;
       },

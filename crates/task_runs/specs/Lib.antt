@@ -1,0 +1,6 @@
+pub mod Answers
+pub mod Ends
+pub mod Leaving
+pub mod Runs
+pub mod Tells
+pub mod Worked

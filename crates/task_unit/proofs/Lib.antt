@@ -1,7 +1,0 @@
-mod Flushed
-mod Kept
-mod Made
-pub mod Shared
-mod TakingBack
-mod Touching
-mod Turns

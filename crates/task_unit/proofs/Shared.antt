@@ -1,2 +1,0 @@
--- What the crates above may use of this crate's proofs: laws of its definitions. No other file here is theirs to import.
-pub use Rattle.task_unit.proofs.Touching.{keys_in-records}

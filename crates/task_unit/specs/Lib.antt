@@ -1,4 +1,0 @@
-pub mod Acting
-pub mod Held
-pub mod Touched
-pub mod Units
