@@ -112,7 +112,7 @@ fn a_text_above_a_mebibyte_is_refused(rt: HostRuntime) -> Result<(), Fail> {
 }
 
 /// Lines that ask for what isn't built, and the key that is told. A later row's line doesn't hide an earlier one's.
-const NOT_BUILT: [(&str, &str); 9] = [
+const NOT_BUILT: [(&str, &str); 8] = [
     (
         "systems.kafka.default.stream.samza.reset.offset=true\n",
         "systems.kafka.default.stream.samza.reset.offset",
@@ -123,7 +123,6 @@ const NOT_BUILT: [(&str, &str); 9] = [
     ),
     ("task.async.commit=true\n", "task.async.commit"),
     ("task.window.ms=1\n", "task.window.ms"),
-    ("task.max.concurrency=2\n", "task.max.concurrency"),
     (
         "job.container.thread.pool.size=1\n",
         "job.container.thread.pool.size",

@@ -8,6 +8,8 @@ mod crashes;
 #[cfg(test)]
 mod examples;
 #[cfg(test)]
+mod orders;
+#[cfg(test)]
 mod runs;
 #[cfg(test)]
 mod several;

@@ -4,7 +4,7 @@ ghost use Rattle.disk_model.specs.Handles.{NoneOut};
 ghost use Rattle.disk_model.specs.MemoryHost.{host_disks_out, host_shelves_out};
 
 use disk_model::{DiskName, Host, MemHost, Pick};
-use edge_io::MemSink;
+use edge_io::{First, MemSink, Turns};
 use samza_container::samza_main;
 use samza_model::Bin;
 use std::alloc::Global;
@@ -84,10 +84,11 @@ pub(crate) struct Ended {
     pub(crate) err: MemSink,
 }
 
-/// Runs a command of these words, with sinks of which the writes with these numbers fail.
-pub(crate) fn run_with(
+/// Runs a command of these words by these turns, with sinks of which the writes with these numbers fail.
+fn run_all<T: Turns>(
     alloc: Global,
     host: &mut MemHost,
+    turns: &mut T,
     words: &[&str],
     out: Vec<u64>,
     err: Vec<u64>,
@@ -101,8 +102,41 @@ pub(crate) fn run_with(
     }
     let mut out = MemSink::new(alloc, 1000, out)?;
     let mut err = MemSink::new(alloc, 100, err)?;
-    let status = samza_main(alloc, owned.as_slice(), host, &mut out, &mut err);
+    let status = samza_main(alloc, owned.as_slice(), host, turns, &mut out, &mut err);
     Ok(Ended { status, out, err })
+}
+
+/// Runs a command of these words, with sinks of which the writes with these numbers fail.
+pub(crate) fn run_with(
+    alloc: Global,
+    host: &mut MemHost,
+    words: &[&str],
+    out: Vec<u64>,
+    err: Vec<u64>,
+) -> Result<Ended, Fail>
+    requires { NoneOut (host_disks_out host.old) (host_shelves_out host.old) }
+    ensures { NoneOut (host_disks_out host.new) (host_shelves_out host.new) }
+{
+    run_all(alloc, host, &mut First, words, out, err)
+}
+
+/// Runs the folder by these turns.
+pub(crate) fn run_by<T: Turns>(
+    alloc: Global,
+    host: &mut MemHost,
+    turns: &mut T,
+) -> Result<Ended, Fail>
+    requires { NoneOut (host_disks_out host.old) (host_shelves_out host.old) }
+    ensures { NoneOut (host_disks_out host.new) (host_shelves_out host.new) }
+{
+    run_all(
+        alloc,
+        host,
+        turns,
+        &["run", "f"],
+        Vec::new(alloc),
+        Vec::new(alloc),
+    )
 }
 
 /// Whether a command of these words ends with this status, and prints just these texts.

@@ -1,12 +1,12 @@
 ghost use Rattle.std.specs.Prelude.{◌≡◌, IfOk};
 
+use restore_trim::OpenFault;
 use samza_container::{
     InputReport, OutputReport, RunFault, StoreReport, TaskReport, fault_line, report,
 };
 use samza_model::{Bin, Failure, Items, NoMemory, Ssp, TaskName, Turn, Why};
 use std::alloc::Global;
 use std::test::Fail;
-use task_unit::OpenFault;
 
 fn lines(alloc: Global, partition: u32) -> Result<Ssp, NoMemory> {
     Ok(Ssp {

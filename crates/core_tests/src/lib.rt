@@ -13,6 +13,8 @@ mod questions;
 #[cfg(test)]
 mod schedules;
 #[cfg(test)]
+mod spans;
+#[cfg(test)]
 mod steps;
 #[cfg(test)]
 mod unit_calls;
