@@ -21,9 +21,9 @@ LAYERS = [
     ("Logs", "log_frame topic_log checkpoint_log output_log"),
     ("State", "kv_store changelog"),
     ("A task", "offset_window callback_manager packed_events window_timer core_steps core_plans core_parts task_core restore_trim "
-     "unit_logs unit_opening unit_steps task_unit event_unit run_loop"),
+     "unit_logs unit_opening unit_steps event_unit run_loop"),
     ("Jobs", "shipped_jobs"),
-    ("Container and program", "container_texts samza_container samza_run"),
+    ("Container and program", "container_texts task_runs samza_container samza_run"),
     ("Plain programs", "slow_model slow_logs"),
 ]
 SHARED = "test_kit"
