@@ -1,13 +1,11 @@
 //! Worked examples of a task's parts in memory: windows of offsets, callbacks in flight, packed events, the core that they make,
-//! the unit over a disk, and its runs. What is wanted was found by hand.
+//! and the unit over a disk. What is wanted was found by hand.
 #![tactic(auto)]
 
 #[cfg(test)]
 mod callbacks;
 #[cfg(test)]
 mod cores;
-#[cfg(test)]
-mod loops;
 #[cfg(test)]
 mod packed;
 #[cfg(test)]

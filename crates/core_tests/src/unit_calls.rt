@@ -183,7 +183,7 @@ fn lies(unit: &Unit, want: Look) -> bool {
 }
 
 /// Whether the unit stands so.
-pub(crate) fn stands(unit: &Unit, want: Look) -> bool {
+fn stands(unit: &Unit, want: Look) -> bool {
     lies(unit, want)
         && unit.last_id() == want.last
         && unit.in_flight_at(0) == want.flying

@@ -29,7 +29,7 @@ const LINES: File = &[
 ];
 
 /// One message in flight, and commits that await it.
-pub(crate) const SHAPE: Shape = Shape {
+const SHAPE: Shape = Shape {
     concurrency: 1,
     span: 65_536,
     async_commit: false,
@@ -255,7 +255,7 @@ const LIVES: &[Row] = &[
 
 /// The disk and the shelf of a task that no unit has.
 #[derive(Drop)]
-pub(crate) struct Outside {
+struct Outside {
     disk: MemDisk,
     shelf: MemShelf,
 }
@@ -294,7 +294,7 @@ fn new_shelf(alloc: Global, fails: &[u64]) -> Result<MemShelf, Fail> {
 }
 
 /// An empty disk and the input.
-pub(crate) fn begin(alloc: Global) -> Result<Outside, Fail> {
+fn begin(alloc: Global) -> Result<Outside, Fail> {
     let disk = new_disk(alloc)?;
     let shelf = new_shelf(alloc, &[])?;
     Ok(Outside { disk, shelf })
@@ -329,13 +329,12 @@ fn begun(alloc: Global, disk: MemDisk, life: &Life) -> Result<MemDisk, NoMemory>
 }
 
 /// Opens a unit at moment 0.
-pub(crate) fn open<'j>(
+fn open<'j>(
     alloc: Global,
     job: &'j WordCount,
-    shape: Shape,
     outside: Outside,
 ) -> Result<Result<Unit<'j>, (OpenFault, Outside)>, NoMemory> {
-    let setup = set_up(alloc, shape)?;
+    let setup = set_up(alloc, SHAPE)?;
     let Outside { disk, shelf } = outside;
     match TaskUnit::open_unit(alloc, job, setup, disk, shelf, 0) {
         Ok(unit) => Ok(Ok(unit)),
@@ -344,7 +343,7 @@ pub(crate) fn open<'j>(
 }
 
 /// Closes a unit.
-pub(crate) fn close(unit: Unit) -> Outside {
+fn close(unit: Unit) -> Outside {
     let (disk, shelf) = unit.close();
     Outside { disk, shelf }
 }
@@ -369,7 +368,7 @@ fn live(
     let Outside { disk, shelf } = outside;
     let disk = begun(alloc, disk, life)?;
     let job = WordCount;
-    match open(alloc, &job, SHAPE, Outside { disk, shelf })? {
+    match open(alloc, &job, Outside { disk, shelf })? {
         Ok(unit) => Ok(run(alloc, unit, life)),
         Err((fault, outside)) if life.opens == Err(fault) => Ok((outside, None)),
         Err((_, outside)) => Ok((outside, Some(0))),
